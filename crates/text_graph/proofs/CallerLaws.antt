@@ -1,8 +1,6 @@
 -- From where routines are called.
-use Rattle.std.proofs.Common.{◌≡◌, ◌∙◌, ℕ, ◌+◌, ◌<◌, ◌≤◌, Bool, true, false, cond, eqb, List, [], ◌∷◌, ◌++◌, Option, Some, None, append-nil, flat_map, get_or, length, take, refl, sym, ap, subst}
-use Rattle.std.specs.BTreeMap.{BTreeMap, get}
+use Rattle.std.proofs.Common.{◌≡◌, ◌∙◌, ℕ, ◌+◌, ◌<◌, ◌≤◌, Bool, true, false, cond, eqb, List, [], ◌∷◌, ◌++◌, Option, Some, None, append-nil, flat_map, get_or, length, take, sym, ap, subst}
 use Rattle.std.specs.Map.{update, update_all}
-use Rattle.std.specs.Ordering.{nat_cmp}
 use Rattle.std.specs.Prelude.{Contains}
 use Rattle.std.proofs.lemmas.Grind.{flat_map-append}
 use Rattle.std.proofs.lemmas.List.{take_all, take_more}

@@ -35,18 +35,21 @@ module _ (scene : Scene) where
   abbrev pub name_at : ℕ → List ℕ
   name_at a = name_by (scene.line a) a
 
-  -- ## Routines
+  -- ## Calls
 
-  -- the routine into which an edge leads, by the name of its first word
+  -- the routine that begins with a number, by the name of its first word
   abbrev pub routine_name : ℕ → List ℕ
-  routine_name k =
-      let e = edge_at scene.tree.edges k in
-      if is_call scene.flow scene.tree e
-      then name_at (place_address (place_in scene.flow scene.tree e.to)) ++ codes ", " else []
+  routine_name n = name_at (place_address (place_in scene.flow scene.tree n)) ++ codes ", "
 
-  -- those that a place calls: a stated call may have several
+  -- the routine into which an edge leads, if it leads into one
+  abbrev pub called_name : ℕ → List ℕ
+  called_name k =
+      if is_call scene.flow scene.tree (edge_at scene.tree.edges k)
+      then routine_name (edge_at scene.tree.edges k).to else []
+
+  -- the routines that a place calls: a stated call may have several
   abbrev pub routine_names : (caller : ℕ) → List ℕ
-  routine_names caller = flat_map routine_name (leaving scene.flow scene.tree caller)
+  routine_names caller = flat_map called_name (leaving scene.flow scene.tree caller)
 
   -- what stands at the frame of a call: the routines by name, and where the call is
   abbrev pub call_label : (caller at : ℕ) → List ℕ
@@ -58,23 +61,21 @@ module _ (scene : Scene) where
   call_label_if None at = []
   call_label_if (Some caller) at = call_label caller at
 
-  -- at the innermost frame of a number the node that begins with the routine says it
-  abbrev pub call_label_by : (first depth : ℕ) → List ℕ
-  call_label_by first depth =
-      let calls = calls_in scene.flow scene.tree first in
+  -- at the innermost frame the node that begins with a routine says it
+  abbrev pub call_label_by : (first : ℕ) → (calls : List ℕ) → (depth : ℕ) → List ℕ
+  call_label_by first calls depth =
       if depth + 1 == length calls
       then call_label_if (caller_of scene.flow scene.tree first) (slice_index calls depth) else []
 
-  -- the cluster of a call around a number, by the calls down to it
-  abbrev pub call_text : (first depth : ℕ) → List ℕ
-  call_text first depth =
+  -- the cluster of a call around the node of a number, by the calls down to it
+  abbrev pub call_text : (first : ℕ) → (calls : List ℕ) → (depth : ℕ) → List ℕ
+  call_text first calls depth =
       codes "subgraph cluster_call"
-      ++ (call_names (take (depth + 1) (calls_in scene.flow scene.tree first))
-      ++ (codes " { " ++ call_label_by first depth))
+      ++ (call_names (take (depth + 1) calls) ++ (codes " { " ++ call_label_by first calls depth))
 
-  -- those of the calls around a number from one on, before another
-  abbrev pub call_texts : (first from to : ℕ) → List ℕ
-  call_texts first from to = flat_map (call_text first) (between from to)
+  -- those of the calls from one on, before another
+  abbrev pub call_texts : (first : ℕ) → (calls : List ℕ) → (from to : ℕ) → List ℕ
+  call_texts first calls from to = flat_map (call_text first calls) (between from to)
 
   -- ## Loops
 
@@ -113,22 +114,22 @@ module _ (scene : Scene) where
 
   -- ## Both
 
-  -- how many of the calls around a number a loop is inside of
-  abbrev pub depth_in : (first : ℕ) → Span → ℕ
-  depth_in first s =
-      min (length (calls_in scene.flow scene.tree s.header)) (length (calls_in scene.flow scene.tree first))
+  -- how many of these calls a loop is inside of
+  abbrev pub depth_in : List ℕ → Span → ℕ
+  depth_in calls s = min (length (calls_in scene.flow scene.tree s.header)) (length calls)
 
-  -- the clusters around a number inside so many calls: of the loops, the outermost first, each after the
-  -- calls that it is inside of, and of the other calls
-  abbrev pub clusters : (first : ℕ) → (inside : ℕ) → List Span → List ℕ
-  clusters first inside [] = call_texts first inside (length (calls_in scene.flow scene.tree first))
-  clusters first inside (s ∷ loops) =
-      call_texts first inside (depth_in first s)
-      ++ (loop_text first s ++ clusters first (max inside (depth_in first s)) loops)
+  -- the clusters inside so many calls: of the loops, the outermost first, each after the calls that it is
+  -- inside of, and of the other calls
+  abbrev pub clusters : (first : ℕ) → (calls : List ℕ) → (inside : ℕ) → List Span → List ℕ
+  clusters first calls inside [] = call_texts first calls inside (length calls)
+  clusters first calls inside (s ∷ loops) =
+      call_texts first calls inside (depth_in calls s)
+      ++ (loop_text first s ++ clusters first calls (max inside (depth_in calls s)) loops)
 
   -- what is around the node of a number
   abbrev pub opened : ℕ → List ℕ
-  opened n = clusters n 0 (reverse (loops_of scene.flow scene.tree n))
+  opened n =
+      clusters n (calls_in scene.flow scene.tree n) 0 (reverse (loops_of scene.flow scene.tree n))
 
   abbrev pub closed : ℕ → List ℕ
   closed n =

@@ -1,17 +1,17 @@
 ghost use Rattle.std.specs.Prelude.{◌≡◌, ◌≤◌, ◌<◌, ◌^◌, ◌++◌, OnOk, length, replicate};
 ghost use Rattle.numbered_walks.specs.Index.{edge_at};
-ghost use Rattle.text_graph.specs.Clusters.{call_label, call_label_by, call_names, call_text, call_texts};
-ghost use Rattle.text_graph.specs.Clusters.{closed, clusters, depth_in, loop_label, loop_label_by};
-ghost use Rattle.text_graph.specs.Clusters.{loop_taken, loop_text, name_at, opened, routine_name};
-ghost use Rattle.text_graph.specs.Clusters.{routine_names};
+ghost use Rattle.text_graph.specs.Clusters.{call_label, call_label_by, call_label_if, call_names, call_text};
+ghost use Rattle.text_graph.specs.Clusters.{call_texts, called_name, closed, clusters, depth_in, loop_label};
+ghost use Rattle.text_graph.specs.Clusters.{loop_label_by, loop_taken, loop_text, name_at, opened};
+ghost use Rattle.text_graph.specs.Clusters.{routine_name, routine_names};
 ghost use Rattle.text_graph.specs.Labels.{label_or_address};
 ghost use Rattle.text_graph.specs.Parts.{scene_of};
-ghost use Rattle.text_graph.specs.Stretches.{AreInside, CanDraw, calls_in};
+ghost use Rattle.text_graph.specs.Stretches.{AreInside, CanDraw, caller_of};
 
 use crate::loops::{loop_ticks, turns};
 use crate::pieces::{put_address, put_escaped, put_shared};
 use crate::stretches::{calls_in, loops_of};
-use crate::tables::{Drawn, is_call};
+use crate::tables::{Drawn, caller_at, is_call};
 use loop_bounds::{edge_range_in, place_in};
 use numbered_walks::{NumberedEdge, Span};
 use std::alloc::AllocError;
@@ -56,24 +56,31 @@ fn edge_at(drawn: Drawn<'_, '_>, number: usize) -> NumberedEdge
     drawn.tree.edges()[number]
 }
 
-// Adds the name of the routine into which an edge leads, if it does.
+// Adds the name of the routine that begins with a number.
 fn put_routine_name(
     out: &mut Vec<u8>,
     drawn: Drawn<'_, '_>,
     number: usize,
 ) -> Result<(), AllocError>
+    ensures { OnOk result (out.new.items ≡ out.old.items ++ routine_name (scene_of drawn.entry) number) }
+{
+    put_name_at(
+        out,
+        drawn,
+        place_in(drawn.graph, drawn.tree, number).address(),
+    )?;
+    put(out, b", ")
+}
+
+// Adds the name of the routine into which an edge leads, if it leads into one.
+fn put_called_name(out: &mut Vec<u8>, drawn: Drawn<'_, '_>, number: usize) -> Result<(), AllocError>
     requires drawn { CanDraw drawn }
     requires known { number < length drawn.graph.now.edges }
-    ensures { OnOk result (out.new.items ≡ out.old.items ++ routine_name (scene_of drawn.entry) number) }
+    ensures { OnOk result (out.new.items ≡ out.old.items ++ called_name (scene_of drawn.entry) number) }
 {
     let edge = edge_at(drawn, number);
     if is_call(drawn.graph, drawn.tree, edge) {
-        put_name_at(
-            out,
-            drawn,
-            place_in(drawn.graph, drawn.tree, edge.to).address(),
-        )?;
-        return put(out, b", ");
+        return put_routine_name(out, drawn, edge.to);
     }
     Ok(())
 }
@@ -86,11 +93,12 @@ fn put_routine_names(
 ) -> Result<(), AllocError>
     requires drawn { CanDraw drawn }
     requires known { caller < length drawn.graph.now.places }
-    ensures { OnOk result (out.new.items ≡ out.old.items ++ routine_names (scene_of drawn.entry) caller) }
+    ensures { OnOk result
+        (out.new.items ≡ out.old.items ++ routine_names (scene_of drawn.entry) caller) }
 {
     let (first, end) = edge_range_in(drawn.graph, drawn.tree, caller);
     for number in first..end {
-        put_routine_name(out, drawn, number)?;
+        put_called_name(out, drawn, number)?;
     }
     Ok(())
 }
@@ -104,7 +112,8 @@ fn put_call_label(
 ) -> Result<(), AllocError>
     requires drawn { CanDraw drawn }
     requires known { caller < length drawn.graph.now.places }
-    ensures { OnOk result (out.new.items ≡ out.old.items ++ call_label (scene_of drawn.entry) caller at) }
+    ensures { OnOk result
+        (out.new.items ≡ out.old.items ++ call_label (scene_of drawn.entry) caller at) }
 {
     put(out, b"label=\"routine ")?;
     put_routine_names(out, drawn, caller)?;
@@ -113,79 +122,94 @@ fn put_call_label(
     put(out, b"\"; ")
 }
 
-// Adds it at the frame of the last call, where the node begins with the routine.
-fn put_call_label_by(
+// Adds it where a routine begins with the number.
+fn put_call_label_if(
     out: &mut Vec<u8>,
     drawn: Drawn<'_, '_>,
     first: usize,
-    calls: &[u32],
-    depth: usize,
+    at: u32,
 ) -> Result<(), AllocError>
     requires drawn { CanDraw drawn }
-    requires calls { calls.now ≡ calls_in drawn.graph.now drawn.tree.now first }
-    requires inside { depth < length calls.now }
     ensures { OnOk result
-        (out.new.items ≡ out.old.items ++ call_label_by (scene_of drawn.entry) first depth) }
+        (out.new.items ≡ out.old.items ++ call_label_if (scene_of drawn.entry)
+        (caller_of drawn.entry.graph.now drawn.entry.tree.now first) at) }
 {
-    if depth + 1 != calls.len() {
-        return Ok(());
-    }
-    match drawn.callers.get(&first) {
-        Some(caller) => put_call_label(out, drawn, *caller, calls[depth]),
+    match caller_at(drawn.callers, first) {
+        Some(caller) => put_call_label(out, drawn, caller, at),
         None => Ok(()),
     }
 }
 
-// Opens the cluster of a call around the node that begins with a number.
-fn put_call(
+// A node, by its first number and the calls around it.
+#[derive(Clone, Copy)]
+struct Node<'a> {
+    first: usize,
+    calls: &'a [u32],
+}
+
+// Adds it at the innermost frame.
+fn put_call_label_by(
     out: &mut Vec<u8>,
     drawn: Drawn<'_, '_>,
-    first: usize,
-    calls: &[u32],
+    node: Node<'_>,
     depth: usize,
 ) -> Result<(), AllocError>
     requires drawn { CanDraw drawn }
-    requires calls { calls.now ≡ calls_in drawn.graph.now drawn.tree.now first }
-    requires inside { depth < length calls.now }
-    ensures { OnOk result (out.new.items ≡ out.old.items ++ call_text (scene_of drawn.entry) first depth) }
+    requires inside { depth < length node.calls.now }
+    ensures { OnOk result
+        (out.new.items ≡ out.old.items
+        ++ call_label_by (scene_of drawn.entry) node.entry.first node.entry.calls.now depth) }
 {
-    put(out, b"subgraph cluster_call")?;
-    put_call_names(out, &calls[..depth + 1])?;
-    put(out, b" { ")?;
-    put_call_label_by(out, drawn, first, calls, depth)
-}
-
-// Opens the clusters of the calls around the node that begins with a number, from one on, before another.
-fn put_calls(
-    out: &mut Vec<u8>,
-    drawn: Drawn<'_, '_>,
-    first: usize,
-    from: usize,
-    to: usize,
-) -> Result<(), AllocError>
-    requires drawn { CanDraw drawn }
-    requires inside { to ≤ length (calls_in drawn.graph.now drawn.tree.now first) }
-    ensures { OnOk result (out.new.items ≡ out.old.items ++ call_texts (scene_of drawn.entry) first from to) }
-{
-    let calls = calls_in(drawn, first);
-    for depth in from..to {
-        put_call(out, drawn, first, calls.items(), depth)?;
+    if depth + 1 == node.calls.len() {
+        return put_call_label_if(out, drawn, node.first, node.calls[depth]);
     }
     Ok(())
 }
 
-// How many calls a number is inside of.
-fn call_count(drawn: Drawn<'_, '_>, number: usize) -> usize
-    ensures { result ≡ length (calls_in drawn.entry.graph.now drawn.entry.tree.now number) }
+// Opens the cluster of a call around a node.
+fn put_call(
+    out: &mut Vec<u8>,
+    drawn: Drawn<'_, '_>,
+    node: Node<'_>,
+    depth: usize,
+) -> Result<(), AllocError>
+    requires drawn { CanDraw drawn }
+    requires inside { depth < length node.calls.now }
+    ensures { OnOk result
+        (out.new.items ≡ out.old.items
+        ++ call_text (scene_of drawn.entry) node.entry.first node.entry.calls.now depth) }
 {
-    calls_in(drawn, number).items().len()
+    put(out, b"subgraph cluster_call")?;
+    put_call_names(out, &node.calls[..depth + 1])?;
+    put(out, b" { ")?;
+    put_call_label_by(out, drawn, node, depth)
 }
 
-// How many of the calls around a number a loop is inside of.
-fn depth_in(drawn: Drawn<'_, '_>, first: usize, span: &Span) -> usize
-    ensures { result ≡ depth_in (scene_of drawn.entry) first span.now }
+// Opens the clusters of the calls around a node, from one on, before another.
+fn put_calls(
+    out: &mut Vec<u8>,
+    drawn: Drawn<'_, '_>,
+    node: Node<'_>,
+    from: usize,
+    to: usize,
+) -> Result<(), AllocError>
+    requires drawn { CanDraw drawn }
+    requires inside { to ≤ length node.calls.now }
+    ensures { OnOk result
+        (out.new.items ≡ out.old.items
+        ++ call_texts (scene_of drawn.entry) node.entry.first node.entry.calls.now from to) }
 {
-    call_count(drawn, span.header).min(call_count(drawn, first))
+    for depth in from..to {
+        put_call(out, drawn, node, depth)?;
+    }
+    Ok(())
+}
+
+// How many of these calls a loop is inside of.
+fn depth_in(drawn: Drawn<'_, '_>, calls: &[u32], span: &Span) -> usize
+    ensures { result ≡ depth_in (scene_of drawn.entry) calls.now span.now }
+{
+    calls_in(drawn, span.header).items().len().min(calls.len())
 }
 
 // Adds what the walk takes in a loop, if it comes there.
@@ -258,26 +282,27 @@ fn put_loop(
     put_loop_label_by(out, drawn, first, span)
 }
 
-// Opens the clusters of calls and of loops around the node that begins with a number, the outermost first.
+// Opens the clusters of calls and of loops around a node, the outermost first.
 fn put_clusters(
     out: &mut Vec<u8>,
     drawn: Drawn<'_, '_>,
-    first: usize,
+    node: Node<'_>,
     loops: &[Span],
 ) -> Result<(), AllocError>
     requires drawn { CanDraw drawn }
     requires inside { AreInside drawn.graph.now loops.now }
     ensures { OnOk result
-        (out.new.items ≡ out.old.items ++ clusters (scene_of drawn.entry) first 0 loops.now) }
+        (out.new.items ≡ out.old.items
+        ++ clusters (scene_of drawn.entry) node.entry.first node.entry.calls.now 0 loops.now) }
 {
     let mut inside = 0;
     for span in loops {
-        let depth = depth_in(drawn, first, span);
-        put_calls(out, drawn, first, inside, depth)?;
-        put_loop(out, drawn, first, span)?;
+        let depth = depth_in(drawn, node.calls, span);
+        put_calls(out, drawn, node, inside, depth)?;
+        put_loop(out, drawn, node.first, span)?;
         inside = inside.max(depth);
     }
-    put_calls(out, drawn, first, inside, call_count(drawn, first))
+    put_calls(out, drawn, node, inside, node.calls.len())
 }
 
 /// Opens the clusters around the node of a number.
@@ -292,7 +317,12 @@ pub(crate) fn put_opened(
 {
     let mut loops = Vec::from_slice(*out.allocator(), loops_of(drawn, number))?;
     loops.reverse();
-    put_clusters(out, drawn, number, &loops)
+    let calls = calls_in(drawn, number);
+    let node = Node {
+        first: number,
+        calls: calls.items(),
+    };
+    put_clusters(out, drawn, node, &loops)
 }
 
 // Closes so many clusters.
@@ -314,6 +344,6 @@ pub(crate) fn put_closed(
     requires known { number ≤ length drawn.graph.now.places }
     ensures { OnOk result (out.new.items ≡ out.old.items ++ closed (scene_of drawn.entry) number) }
 {
-    put_ends(out, call_count(drawn, number))?;
+    put_ends(out, calls_in(drawn, number).items().len())?;
     put_ends(out, loops_of(drawn, number).len())
 }

@@ -1,4 +1,4 @@
-ghost use Rattle.std.specs.Prelude.{◌≡◌, ◌≤◌, ◌+◌, ℕ, IfOk, OnOk, length, nat_eq, slice_index};
+ghost use Rattle.std.specs.Prelude.{◌≡◌, ◌≤◌, ◌+◌, ◌∷◌, [], ℕ, IfOk, OnOk, length, nat_eq, slice_index};
 ghost use Rattle.std.specs.BTreeMap.{get};
 ghost use Rattle.std.specs.Map.{update_all};
 ghost use Rattle.std.specs.Ordering.{nat_cmp};
@@ -67,7 +67,21 @@ pub(crate) fn is_call(graph: &Graph, tree: &LoopTree, edge: NumberedEdge) -> boo
     calls_in(graph, tree, edge.from).items().len() < calls_in(graph, tree, edge.to).items().len()
 }
 
-// Adds where a routine is called by an edge, if it is.
+// Notes that the place of one number calls the routine that begins with another.
+fn put_caller(
+    callers: &mut BTreeMap<usize, usize>,
+    from: usize,
+    to: usize,
+) -> Result<(), AllocError>
+    ensures { OnOk result
+        ((n : ℕ)
+        → get nat_cmp callers.new n ≡ update_all nat_eq (get nat_cmp callers.old) ((to, from) ∷ []) n) }
+{
+    callers.insert(to, from)?;
+    Ok(())
+}
+
+// Notes it of an edge that leads into a routine.
 fn note_caller(
     callers: &mut BTreeMap<usize, usize>,
     graph: &Graph,
@@ -80,7 +94,7 @@ fn note_caller(
         ≡ update_all nat_eq (get nat_cmp callers.old) (calls_by graph.now tree.now edge) n) }
 {
     if is_call(graph, tree, edge) {
-        callers.insert(edge.to, edge.from)?;
+        return put_caller(callers, edge.from, edge.to);
     }
     Ok(())
 }
@@ -98,4 +112,11 @@ pub(crate) fn callers(
         note_caller(&mut callers, graph, tree, *edge)?;
     }
     Ok(callers)
+}
+
+/// From where the routine that begins with a number is called, if one does.
+pub(crate) fn caller_at(callers: &BTreeMap<usize, usize>, number: usize) -> Option<usize>
+    ensures { result ≡ get nat_cmp callers.now number }
+{
+    callers.get(&number).copied()
 }

@@ -7,7 +7,6 @@ use Rattle.arm2_decode.specs.declared.flags.Flags.{Flags}
 use Rattle.arm2_decode.specs.declared.instr.Instr.{Instr}
 use Rattle.arm2_decode.specs.declared.instr.Operation.{Operation}
 use Rattle.arm2_decode.specs.declared.instr.Operation.TheVariants as row
-use Rattle.arm2_decode.specs.declared.instr.Unallocated.{Unallocated}
 use Rattle.arm2_decode.specs.declared.names.Register.TheVariants.{R15}
 use Rattle.arm2_decode.specs.Transfers.{is_listed}
 use Rattle.arm2_effect.specs.declared.step_end.Kind.TheVariants as ended
@@ -116,8 +115,8 @@ label_done true = refl
 label_done false = refl
 
 not_true : (b : Bool) → (b ≡ true → ⊥) → b ≡ false
-not_true true no = absurd (no refl)
-not_true false no = refl
+not_true true never = absurd (never refl)
+not_true false never = refl
 
 module _ (words : Words) (st : Stated) (profile : Profile) (s : State) (i : Input) (stepped : Stepped) (after : State) (e : Edge) (edge : IsEdgeOf words st profile s i stepped after e) where
   abbrev x : Executes words st profile edge.action s i stepped after

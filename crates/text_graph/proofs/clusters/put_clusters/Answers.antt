@@ -1,15 +1,9 @@
-use Rattle.std.proofs.Common.{◌∙◌, ◌++◌, ap, arith, get_or}
+use Rattle.std.proofs.Common.{◌++◌, arith, get_or}
 use Rattle.std.proofs.lemmas.Result.{on_ok_weaker}
-use Rattle.text_graph.specs.Clusters.{call_texts, clusters}
+use Rattle.text_graph.specs.Clusters.{clusters}
 use Rattle.text_graph.specs.Parts.{scene_of}
 use Rattle.text_graph.proofs.StretchLaws.{cluster_more, clusters_end}
 use Rattle.text_graph.proofs.clusters.put_clusters.Goals as goal
-
-pub put_calls-requires-clause-inside : goal.put_calls-requires-clause-inside
-put_calls-requires-clause-inside c = omega (arith, c.depth_in-depth.ensures)
-
-pub put_calls-2-requires-clause-inside : goal.put_calls-2-requires-clause-inside
-put_calls-2-requires-clause-inside c = omega (arith, c.call_count.ensures)
 
 pub loop-span-preserved : goal.loop-span-preserved
 loop-span-preserved c =
@@ -17,9 +11,9 @@ loop-span-preserved c =
     record {
       within = omega (arith, c.max-inside.ensures, c.depth_in-depth.ensures, c.loop-span.invariant.within);
       same =
-          cluster_more scene c.args.first c.args.loops.now c.loop-span.span-index _ c.loop-span.inside c.depth_in-depth.result c.max-inside.result
+          cluster_more scene c.args.node.first c.args.node.calls.now c.args.loops.now c.loop-span.span-index _ c.loop-span.inside c.depth_in-depth.result c.max-inside.result
           c.loop-span.out.items c.put_calls.new.out.items c.put_loop.new.out.items
-          (c.args.out.now.items ++ clusters scene c.args.first 0 c.args.loops.now) c.loop-span.invariant.same c.loop-span-test.true
+          (c.args.out.now.items ++ clusters scene c.args.node.first c.args.node.calls.now 0 c.args.loops.now) c.loop-span.invariant.same c.loop-span-test.true
           c.depth_in-depth.ensures c.in_ok-put_calls.ensures c.in_ok-put_loop.ensures c.max-inside.ensures;
     }
 
@@ -27,7 +21,6 @@ pub returns : goal.returns
 returns c =
     let scene = scene_of c.args.drawn in
     on_ok_weaker c.put_calls-2.result
-    (λ last. clusters_end scene c.args.first c.args.loops.now c.loop-span.span-index c.loop-span.inside c.loop-span.out.items c.put_calls-2.new.out.items
-    (c.args.out.now.items ++ clusters scene c.args.first 0 c.args.loops.now) c.loop-span.invariant.same c.loop-span-test.false
-    (last ∙ ap (λ n. c.loop-span.out.items ++ call_texts scene c.args.first c.loop-span.inside n) c.call_count.ensures))
+    (clusters_end scene c.args.node.first c.args.node.calls.now c.args.loops.now c.loop-span.span-index c.loop-span.inside c.loop-span.out.items c.put_calls-2.new.out.items
+    (c.args.out.now.items ++ clusters scene c.args.node.first c.args.node.calls.now 0 c.args.loops.now) c.loop-span.invariant.same c.loop-span-test.false)
     c.put_calls-2.ensures

@@ -1,12 +1,11 @@
 use Rattle.std.proofs.Common.{◌≡◌, ◌≤◌, ◌++◌, drop, length}
 use Rattle.text_graph.specs.Clusters.{clusters}
 use Rattle.text_graph.specs.Parts.{scene_of}
-use Rattle.text_graph.specs.Stretches.{calls_in}
 use Rattle.text_graph.proofs.clusters.put_clusters.Given as goal
 
 abbrev pub invariant-loop-span : goal.invariant-loop-span
 invariant-loop-span l = record {
-  within : l.inside ≤ length (calls_in l.drawn.graph.now l.drawn.tree.now l.first);
-  same : l.out.items ++ clusters (scene_of l.drawn) l.first l.inside (drop l.span-index l.loops)
-      ≡ l.initial.out.items ++ clusters (scene_of l.drawn) l.first 0 l.loops;
+  within : l.inside ≤ length l.node.calls.now;
+  same : l.out.items ++ clusters (scene_of l.drawn) l.node.first l.node.calls.now l.inside (drop l.span-index l.loops)
+      ≡ l.initial.out.items ++ clusters (scene_of l.drawn) l.node.first l.node.calls.now 0 l.loops;
 }
