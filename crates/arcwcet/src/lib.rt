@@ -5,6 +5,7 @@
 mod announced;
 mod commands;
 mod diagnose;
+mod facts;
 mod fault;
 mod files;
 mod input;

@@ -30,13 +30,13 @@ use std::alloc::{AllocError, Global};
 
 /// A handler of whose statement it is asked what follows from the code.
 #[derive(Clone, Copy)]
-pub struct JustifiedHandler<'a> {
+pub struct JustifiedHandler<'a, 'g> {
     /// The bytes of its source, a text or an image.
     pub source: &'a [u8],
     /// The text of the statement on it.
     pub statement: &'a [u8],
     /// What is given of the registers at its entry.
-    pub given: &'a [Given],
+    pub given: &'g [Given],
     /// Whether all entries are to follow.
     pub all: bool,
 }
@@ -85,7 +85,7 @@ fn text_of(alloc: Global, read: &Source<'_>, summary: Summary<'_>) -> Result<Vec
 // The report on a handler that was read.
 fn handler_justified(
     alloc: Global,
-    justified: JustifiedHandler<'_>,
+    justified: JustifiedHandler<'_, '_>,
     said: &Source<'_>,
     handler: &Handler<'_>,
     profile: &Profile,
@@ -124,7 +124,7 @@ fn handler_justified(
 // The report on the handler of a source that was read.
 fn source_justified<'a>(
     alloc: Global,
-    justified: JustifiedHandler<'a>,
+    justified: JustifiedHandler<'a, '_>,
     said: &Source<'_>,
     profile: &Profile,
 ) -> Result<Justified, Stop<'a>>
@@ -143,7 +143,7 @@ fn source_justified<'a>(
 // The report on a source's handler.
 fn read_justified<'a>(
     alloc: Global,
-    justified: JustifiedHandler<'a>,
+    justified: JustifiedHandler<'a, '_>,
     profile: &Profile,
 ) -> Result<Justified, Refusal<'a>>
     ensures shows { IfOk result
@@ -172,7 +172,7 @@ fn read_justified<'a>(
 /// Those of `bound_report`. After any but `Device` nothing was written.
 pub fn justify_report<'a, O: Output>(
     alloc: Global,
-    justified: JustifiedHandler<'a>,
+    justified: JustifiedHandler<'a, '_>,
     profile: Option<&'a [u8]>,
     out: &mut O,
 ) -> Result<bool, Refusal<'a>>
