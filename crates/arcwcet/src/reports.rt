@@ -180,13 +180,9 @@ fn print_trace<'b, O: Output>(
         ..
     } = job.inputs;
     if job.request.json {
-        return alone(machine_report::<ShownRecords, O>(
-            alloc, source, second, profile, out,
-        ));
+        return alone(machine_report::<ShownRecords, O>(alloc, source, second, profile, out));
     }
-    alone(machine_report::<ShownSteps, O>(
-        alloc, source, second, profile, out,
-    ))
+    alone(machine_report::<ShownSteps, O>(alloc, source, second, profile, out))
 }
 
 // `trace --to`, in the same forms.

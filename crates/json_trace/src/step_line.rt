@@ -64,7 +64,10 @@ fn put_fetched(out: &mut String, step: &StepRecord, text: &str) -> Result<(), Al
     let number = step.number;
     let from = word_or_null(Some(step.traced.stepped.from));
     let word = word_or_null(step.traced.word);
-    write!(out, "\"step\":{number},\"pc\":{from},\"word\":{word},\"text\":{text},")
+    write!(
+        out,
+        "\"step\":{number},\"pc\":{from},\"word\":{word},\"text\":{text},"
+    )
 }
 
 // And what came of it.
@@ -75,7 +78,10 @@ fn put_outcome(out: &mut String, kind: Kind, done: bool) -> Result<(), AllocErro
     let exception = name_value(exception_of(kind));
     let stopped = name_value(stop_of(kind));
     let done = boolean(done);
-    write!(out, "\"exception\":{exception},\"stopped\":{stopped},\"done\":{done},")
+    write!(
+        out,
+        "\"exception\":{exception},\"stopped\":{stopped},\"done\":{done},"
+    )
 }
 
 // The mode and the flags, and the name of what follows.
@@ -85,7 +91,10 @@ fn put_mode(out: &mut String, mode: &str, flags: &str) -> Result<(), AllocError>
         ≡ string_bytes out.old
         ++ (ended (mode_members mode.now flags.now) ++ (quoted (codes "registers") ++ codes ":"))) }
 {
-    write!(out, "\"mode\":\"{mode}\",\"flags\":\"{flags}\",\"registers\":")
+    write!(
+        out,
+        "\"mode\":\"{mode}\",\"flags\":\"{flags}\",\"registers\":"
+    )
 }
 
 // The members of the processor, each with a comma.
@@ -147,7 +156,10 @@ fn put_time(out: &mut String, step: &StepRecord) -> Result<(), AllocError>
     let ticks = step.traced.stepped.ticks;
     let elapsed = step.elapsed;
     let next = word_or_null(Some(step.traced.stepped.to));
-    write!(out, "\"ticks\":{ticks},\"elapsed\":{elapsed},\"next\":{next}")
+    write!(
+        out,
+        "\"ticks\":{ticks},\"elapsed\":{elapsed},\"next\":{next}"
+    )
 }
 
 /// Adds the line of a step: an object, and the line's end.
