@@ -1,8 +1,6 @@
 //! Words that are moved between registers and memory.
 
-ghost use Rattle.std.specs.Prelude.{◌<◌, ◌≤◌};
-
-use bus_ticks::SPACE_END;
+ghost use Rattle.std.specs.Prelude.{◌<◌, ◌≤◌, ◌^◌};
 
 /// Words that are moved, one after the other.
 #[derive(Clone, Copy)]
@@ -13,6 +11,6 @@ pub struct Transfers {
     pub address: u32,
     /// How many words.
     pub words: u32,
-    ghost below: { address < SPACE_END },
+    ghost below: { address < 2 ^ 26 },
     ghost few: { words ≤ 16 },
 }
