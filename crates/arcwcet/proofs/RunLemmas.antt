@@ -19,7 +19,7 @@ use Rattle.command_line.specs.declared.line.Command.{Command}
 use Rattle.command_line.specs.declared.line.Command.TheVariants as command
 use Rattle.arcwcet.specs.Files.{FailsToRead, Inputs, ReadsAll, Reading, Texts, Writing, inputs_of, names_of}
 use Rattle.arcwcet.specs.Refusals.{Says, SaysRefused, Saying, TakesSome, refusal_of, shows_why, store_fault_name}
-use Rattle.arcwcet.specs.Facts.{AreFacts, ByFacts, FactsFault, HasNoFacts}
+use Rattle.arcwcet.specs.Facts.{AreFacts, HasNoFacts}
 use Rattle.arcwcet.specs.Reports.{Plain, Report, answered, by_facts, judged, priced, report_by, report_of, unpriced}
 use Rattle.arcwcet.specs.Run.{HasAnswered, HasPrinted, HasWritten, PrintsReport, Runs, RunsAsm, RunsBy, RunsOf, answer_status, report_from, report_status, store_status}
 use Rattle.arcwcet.specs.declared.fault.StoreFault.{StoreFault}
