@@ -1,4 +1,4 @@
-use Rattle.std.proofs.Common.{◌++◌, arith, get_or}
+use Rattle.std.proofs.Common.{◌++◌, arith}
 use Rattle.std.proofs.lemmas.Result.{on_ok_weaker}
 use Rattle.text_graph.specs.Clusters.{clusters}
 use Rattle.text_graph.specs.Parts.{scene_of}
