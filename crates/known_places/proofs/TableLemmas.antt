@@ -23,7 +23,7 @@ use Rattle.numbered_walks.specs.Index.{edge_at}
 use Rattle.numbered_walks.specs.declared.span.NumberedEdge.{NumberedEdge}
 use Rattle.known_words.specs.declared.knowledge.Knowledge.{Knowledge}
 use Rattle.known_places.specs.Around.{around_at, known_at}
-use Rattle.known_places.specs.Destinations.{destination_at}
+use Rattle.known_places.specs.Destinations.{PlaceGoesTo, WordGoesTo, destination_at}
 use Rattle.known_places.specs.declared.destination.Destination.{Destination}
 use Rattle.known_places.specs.declared.destination.Destination.TheVariants.{Unknown}
 use Rattle.known_places.specs.Table.{EdgeKeeps, KeepsAlong, StaysAt}
@@ -80,6 +80,14 @@ module _ (words : Words) (flow : Flow) (tree : Tree) (around : List Around) (tab
             → Contains (trusted ++ more) a ⊎ StaysWithin tree.spans (around_at around number) (class_at st a action.base) w a (known_at table number)
         by_case (inl has) = inl (Contains-append_right trusted more a has)
         by_case (inr other) = inr other
+
+pub goes_there : (words : Words) (flow : Flow) (tree : Tree) (table : List Knowledge) (number : ℕ) (calls : List ℕ) (address word : ℕ)
+    → place_in flow tree number ≡ At calls address → word_of words address ≡ Some word → (d : Destination)
+    → WordGoesTo word address (known_at table number) d → PlaceGoesTo words flow tree table number d
+goes_there words flow tree table number calls address word place has d goes others a w is also =
+    let at : address ≡ a = ap place_address (sym place ∙ is) in
+    subst (λ n. WordGoesTo w n (known_at table number) d) at
+    (subst (λ v. WordGoesTo v address (known_at table number) d) (one_word words address a word w at has also) goes)
 
 -- one destination more
 pub destinations_more : (Goes : ℕ → Destination → Type 0) (old new : List Destination) (number : ℕ) (d : Destination) → length old ≡ number

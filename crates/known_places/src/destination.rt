@@ -198,9 +198,10 @@ pub fn destinations(
     ensures each { IfOk result (λ found. IfSome found (λ list. AreDestinations handler.now.image.now
         handler.now.statement handler.now.graph handler.now.tree given.now list.items)) }
 {
-    let Some(_) = holds_along(alloc, handler, given, table)? else {
+    let Some(around) = holds_along(alloc, handler, given, table)? else {
         return Ok(None);
     };
+    let _ = around;
     let found = destinations_in(alloc, handler, table)?;
     Ok(Some(found))
 }

@@ -10,3 +10,6 @@ loop-number-preserved c =
     destinations_more (PlaceGoesTo h.image.now h.graph h.tree c.args.table.now) c.loop-number.found.items
     c.put_destination.new.found.items c.loop-number.number put.0 c.loop-number.invariant.0 c.loop-number.invariant.1 put.1
     put.2
+
+pub returns-clause-each : goal.returns-clause-each
+returns-clause-each c = λ number low. c.loop-number.invariant.1 number (omega (arith, low, c.loop-number-test.false))
