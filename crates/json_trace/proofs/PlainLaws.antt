@@ -26,13 +26,13 @@ use Rattle.asm_text.specs.Words.{branch_name}
 use Rattle.asm_text.specs.Hex.{hex, hex_digit}
 use Rattle.asm_text.proofs.HexLaws.{all_digits}
 use Rattle.assembler.specs.Shown.{hex_line}
-use Rattle.json_trace.specs.Json.{needs_no_escape}
+use Rattle.json_trace.specs.Json.{is_plain}
 use Rattle.arm2_decode.specs.Bits.{bit_of_word}
 use Rattle.arm2_decode.specs.Transfers.{asks_for_user}
 use Rattle.assembler.specs.ShownLines.{IsShown, amount_text, block_name, block_suffix, block_text, address_end, comma_register, compare_front, compare_text, cond_text, data_front, factors_text, flags_text, follows, is_plain, list_operand, list_text, listed, listed_below, load_name, mark_if, move_front, multiply_text, numbered, offset_text, base_end, operation_text, register_text, run_first, run_last, shift_text, shifted_text, shown_line, sign_text, single_immediate_text, single_register_text, shown_target, three_front, transfer_front, transfer_suffix, word_text}
 
 is_spelled : ℕ → Bool
-is_spelled b = needs_no_escape b
+is_spelled b = is_plain b
 
 abbrev Spelled : List ℕ → Type 0
 Spelled text = list_all is_spelled text ≡ true
@@ -300,21 +300,21 @@ operation_spelled c _ at = refl
 
 -- ## A word's line
 
-plain_text : (text : List ℕ) → Spelled text → list_all needs_no_escape text ≡ true
+plain_text : (text : List ℕ) → Spelled text → list_all is_plain text ≡ true
 unfolding is_spelled
 plain_text text h = h
 
-digit_plain : (d : ℕ) → d < 16 → needs_no_escape (hex_digit d) ≡ true
+digit_plain : (d : ℕ) → d < 16 → is_plain (hex_digit d) ≡ true
 digit_plain d lt = grind (arith, nat_tests, lt)
 
-hex_plain : (word : ℕ) → list_all needs_no_escape (hex_line word) ≡ true
-hex_plain word = all_digits needs_no_escape 8 word digit_plain
+hex_plain : (word : ℕ) → list_all is_plain (hex_line word) ≡ true
+hex_plain word = all_digits is_plain 8 word digit_plain
 
 -- of a spelling, or else of a DCD line
-pub line_plain : (word at : ℕ) (line : List ℕ) → IsShown word at line → list_all needs_no_escape line ≡ true
-line_plain word at line shown = elim (cases_Bool (list_all needs_no_escape line)) [
+pub line_plain : (word at : ℕ) (line : List ℕ) → IsShown word at line → list_all is_plain line ≡ true
+line_plain word at line shown = elim (cases_Bool (list_all is_plain line)) [
   | inl all ↦ all
-  | inr other ↦ ap (list_all needs_no_escape) (shown.dcd (λ i means gives.
-      absurd (false≢true (sym other ∙ ap (list_all needs_no_escape) (shown.spelled i means gives)
+  | inr other ↦ ap (list_all is_plain) (shown.dcd (λ i means gives.
+      absurd (false≢true (sym other ∙ ap (list_all is_plain) (shown.spelled i means gives)
       ∙ plain_text (shown_line i at) (operation_spelled i.cond i.operation at))))) ∙ hex_plain word
 ]

@@ -195,8 +195,8 @@ unallocated_law false regs bus = skipped_none regs bus
 answer_kind : (s : State) (m : Moved) → (answer_of s m).kind ≡ m.kind
 unfolding answer_of
 answer_kind s m = elim (cases_Bool (is_stopped m.kind)) [
-  | inl stops ↦ rw stops refl
-  | inr goes ↦ rw goes refl
+  | inl yes ↦ rw yes refl
+  | inr no ↦ rw no refl
 ]
 
 module _ (s : State) (i : Input) (stepped : Stepped) (after : State) (step : Step s i stepped after) where

@@ -4,8 +4,8 @@ use Rattle.std.specs.Prelude.{Option, Some, None}
 use Rattle.asm_text.specs.Hex.{hex8}
 
 -- a printed character that needs no escape in a string: not `"`, and not a backslash
-abbrev pub needs_no_escape : ℕ → Bool
-needs_no_escape b = (nat_le 32 b && nat_le b 126) && not (b == 34 || b == 92)
+abbrev pub is_plain : ℕ → Bool
+is_plain b = (nat_le 32 b && nat_le b 126) && not (b == 34 || b == 92)
 
 -- a string of characters that need no escape
 abbrev pub quoted : List ℕ → List ℕ

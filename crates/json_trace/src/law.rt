@@ -1,9 +1,9 @@
 ghost use Rattle.std.specs.Prelude.{◌≡◌, List, ℕ, true};
 ghost use Rattle.std.specs.List.{list_all};
 ghost use Rattle.assembler.specs.ShownLines.{IsShown};
-ghost use Rattle.json_trace.specs.Json.{needs_no_escape};
+ghost use Rattle.json_trace.specs.Json.{is_plain};
 
 /// The law of texts: the line of a word has no character that a string of JSON must escape.
 pub fn texts_need_no_escape()
-    ensures { (word at : ℕ) (line : List ℕ) → IsShown word at line → list_all needs_no_escape line ≡ true }
+    ensures { (word at : ℕ) (line : List ℕ) → IsShown word at line → list_all is_plain line ≡ true }
 {}

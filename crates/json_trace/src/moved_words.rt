@@ -1,5 +1,7 @@
 //! Words that are moved between registers and memory.
 
+ghost use Rattle.std.specs.Prelude.{◌<◌, ◌≤◌, ◌^◌};
+
 /// Words that are moved, one after the other.
 #[derive(Clone, Copy)]
 pub struct Transfers {
@@ -9,4 +11,6 @@ pub struct Transfers {
     pub address: u32,
     /// How many words.
     pub words: u32,
+    ghost below: { address < 2 ^ 26 },
+    ghost few: { words ≤ 16 },
 }

@@ -1,7 +1,6 @@
 //! The words that a step moves between registers and memory.
 
 ghost use Rattle.std.specs.Prelude.{◌≡◌, ◌<◌, ◌≤◌, ◌++◌, OnOk, map, string_bytes};
-ghost use Rattle.bus_ticks.specs.Prices.{word_address};
 ghost use Rattle.arm2_exec.specs.Step.{Step};
 ghost use Rattle.arm2_exec.specs.State.{State};
 ghost use Rattle.arm2_exec.specs.declared.machine.Input.{Input};
@@ -18,13 +17,14 @@ use arm2_decode::{Field, Instr, Operation, bit_of_word, decode};
 use arm2_effect::{Reg, Registers, mode_of};
 use arm2_exec::Machine;
 use arm2_transfer::{address_by, lowest_of};
-use bus_ticks::SPACE_END;
+use bus_ticks::{SPACE_END, word_address};
 use memc::{Memc, Spot};
 use std::alloc::AllocError;
 use std::fmt::Write;
 
 // So many words at an address; none at one of 2^26 or more.
 fn words_at(store: bool, address: u32, words: u32) -> Option<Transfers>
+    requires { words ≤ 16 }
     ensures { result ≡ words_in_space store address words }
 {
     if address >= SPACE_END {
@@ -145,15 +145,6 @@ fn put_comma(out: &mut String, number: u32) -> Result<(), AllocError>
     }
 }
 
-// The address of a word of a transfer.
-fn word_place(address: u32, number: u32) -> u32
-    ensures place { result ≡ word_address address number }
-    ensures below { result < SPACE_END }
-{
-    let bytes = 4 * (u64::from(address / 4) + u64::from(number));
-    (bytes % u64::from(SPACE_END)) as u32
-}
-
 // The words, with commas between them.
 fn put_moved(
     out: &mut String,
@@ -167,7 +158,7 @@ fn put_moved(
 {
     for number in 0..moved.words {
         put_comma(out, number)?;
-        let address = word_place(moved.address, number);
+        let address = word_address(moved.address, number);
         put_transfer(out, word, memc, moved.store, address)?;
     }
     Ok(())

@@ -1,7 +1,6 @@
-use Rattle.std.proofs.Common.{◌≡◌, ◌∙◌, ℕ, List, Option, ap, sym, subst}
+use Rattle.std.proofs.Common.{◌≡◌, Option, sym, subst}
 use Rattle.arm2_exec.specs.Step.{Step}
 use Rattle.json_trace.specs.Facts.{carried}
-use Rattle.json_trace.specs.Planned.{planned_if}
 use Rattle.json_trace.specs.StepLine.{transfers_in}
 use Rattle.json_trace.specs.declared.moved_words.Transfers.{Transfers}
 use Rattle.json_trace.proofs.TransferLaws.{instruction_moves, none_moves, unallocated_moves}
@@ -22,4 +21,4 @@ returns-in-Ok c = λ i stepped after step.
     instruction_moves c.args.machine.now i stepped after step c.in-Some.word (sym c.in-Some.ensures) c.in-Ok.instr
     c.in-Ok.ensures.found in
     subst (λ (planned : Option Transfers). transfers_in step.moved.accesses ≡ carried stepped.kind planned)
-    (sym (c.planned_if.ensures ∙ ap (λ (regs : List ℕ). planned_if c.in-Ok.instr regs) c.registers.ensures)) moved
+    (sym c.planned_if.ensures) moved

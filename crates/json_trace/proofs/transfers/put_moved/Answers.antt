@@ -9,7 +9,7 @@ loop-number-preserved c =
     let here =
     subst
     (λ (a : ℕ). string_bytes c.put_transfer.new.out ≡ string_bytes c.put_comma.new.out ++ f (c.args.moved.store, a))
-    c.word_place-address.ensures.place c.in_ok-put_transfer.ensures in
+    c.word_address-address.ensures.address c.in_ok-put_transfer.ensures in
     moved_more f (string_bytes c.args.out.now) (string_bytes c.loop-number.out) (string_bytes c.put_comma.new.out)
     (string_bytes c.put_transfer.new.out) c.args.moved.store c.args.moved.address c.loop-number.number
     c.loop-number.invariant c.in_ok-put_comma.ensures here
