@@ -99,8 +99,8 @@ word_more : (f : Transfer → List ℕ) (store : Bool) (address k : ℕ)
     ≡ separated (map f (words_from store address k)) ++ (comma k ++ f (store, word_address address k))
 word_more f store address zero = append-nil (f (store, word_address address 0))
 word_more f store address (suc k) =
-    let w : Transfer = (store, word_address address k) in
-    let z : Transfer = (store, word_address address (suc k)) in
+    let w = (store, word_address address k) in
+    let z = (store, word_address address (suc k)) in
     let one : map f (words_from store address (suc k)) ≡ map f (words_from store address k) ++ f w ∷ [] =
     map-append f (words_from store address k) (w ∷ []) in
     ap separated (map-append f (words_from store address (suc k)) (z ∷ []))

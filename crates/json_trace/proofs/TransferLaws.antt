@@ -15,10 +15,13 @@ use Rattle.arm2_decode.specs.declared.instr.Instr.{Instr}
 use Rattle.arm2_decode.specs.declared.instr.Operation.{Operation}
 use Rattle.arm2_decode.specs.declared.instr.Operation.TheVariants as operation
 use Rattle.arm2_decode.specs.declared.instr.Unallocated.{Unallocated}
+use Rattle.arm2_decode.specs.declared.names.Opcode.{Opcode}
+use Rattle.arm2_decode.specs.declared.names.Register.{Register}
 use Rattle.arm2_decode.specs.declared.names.Register.TheVariants.{R15}
 use Rattle.arm2_decode.proofs.Unique.{never_both, one_instr}
 use Rattle.arm2_effect.specs.declared.exceptions.Vector.{Vector}
 use Rattle.arm2_effect.specs.declared.exceptions.Vector.TheVariants as vector
+use Rattle.arm2_effect.specs.declared.outcomes.Outcome.{Outcome}
 use Rattle.arm2_effect.specs.declared.step_end.Kind.{Kind}
 use Rattle.arm2_effect.specs.declared.step_end.Kind.TheVariants.{Plain, Taken, Stopped}
 use Rattle.arm2_effect.specs.declared.step_end.Why.TheVariants as why
@@ -150,22 +153,24 @@ block_law x port regs bus =
 
 -- ## Any operation
 
--- one of three effects
-choice_none : (a b : Bool) (x y z : Effect) (bus : Bus) → Moves (on_bus bus x) None → Moves (on_bus bus y) None
-    → Moves (on_bus bus z) None → Moves (on_bus bus (cond a x (cond b y z))) None
-choice_none true b x y z bus h g k = h
-choice_none false true x y z bus h g k = g
-choice_none false false x y z bus h g k = k
+outcome_none : (a b : Bool) (sets : Bool) (rd : Register) (out : Outcome) (regs : List ℕ) (bus : Bus)
+    → Moves (on_bus bus (cond a (compared rd out regs) (cond b (jumped sets out regs) (entered sets rd out regs)))) None
+unfolding compared jumped entered
+outcome_none true b sets rd out regs bus = refl
+outcome_none false true sets rd out regs bus = refl
+outcome_none false false sets rd out regs bus = refl
+
+processed_none : (opcode : Opcode) (sets : Bool) (rd : Register) (out : Outcome) (regs : List ℕ) (bus : Bus)
+    → Moves (on_bus bus (outcome_effect opcode sets rd out regs)) None
+unfolding outcome_effect
+processed_none opcode sets rd out regs bus = outcome_none (is_compare opcode) (is_pc rd) sets rd out regs bus
 
 operation_law : (o : Operation) (port : ℕ) (regs : List ℕ) (bus : Bus) → Moves (operation_moved o port regs bus) (planned_by o regs)
-unfolding operation_effect multiply_effect entered jumped compared outcome_effect data_immediate_effect data_register_effect data_register_shift_effect branch_effect taken
+unfolding operation_effect multiply_effect entered data_immediate_effect data_register_effect data_register_shift_effect branch_effect taken
 operation_law (operation.Multiply x) port regs bus = refl
-operation_law (operation.DataRegister x) port regs bus =
-    choice_none (is_compare x.opcode) (is_pc x.rd) _ _ _ bus refl refl refl
-operation_law (operation.DataRegisterShift x) port regs bus =
-    choice_none (is_compare x.opcode) (is_pc x.rd) _ _ _ bus refl refl refl
-operation_law (operation.DataImmediate x) port regs bus =
-    choice_none (is_compare x.opcode) (is_pc x.rd) _ _ _ bus refl refl refl
+operation_law (operation.DataRegister x) port regs bus = processed_none x.opcode x.sets_flags x.rd _ regs bus
+operation_law (operation.DataRegisterShift x) port regs bus = processed_none x.opcode x.sets_flags x.rd _ regs bus
+operation_law (operation.DataImmediate x) port regs bus = processed_none x.opcode x.sets_flags x.rd _ regs bus
 operation_law (operation.SingleImmediate x) port regs bus = single_law (of_immediate x) (first_of 8 x.rn regs) port regs bus
 operation_law (operation.SingleRegister x) port regs bus = single_law (of_register x regs) (first_of 8 x.rn regs) port regs bus
 operation_law (operation.Block x) port regs bus = block_law x port regs bus

@@ -21,7 +21,7 @@ use Rattle.arm2_exec.specs.State.{State}
 use Rattle.arm2_exec.specs.Step.{fetched_at}
 use Rattle.arm2_exec.specs.declared.machine.Stepped.{Stepped}
 use Rattle.assembler.specs.ShownLines.{IsShown}
-use Rattle.ioc.specs.Interrupts.{fiq_of, irq_of}
+use Rattle.ioc.specs.Interrupts.{Controller, fiq_of, irq_of}
 use Rattle.memc.specs.Memory.{Memory, located}
 use Rattle.text_trace.specs.TraceText.{exception_name, why_name}
 use Rattle.json_trace.specs.Json.{array, boolean, member, name_value, object, quoted, word_value}
@@ -167,37 +167,39 @@ fetched_members number from word text =
     ∷ member (codes "word") (word_or_null word)
     ∷ member (codes "text") text ∷ []
 
-abbrev pub outcome_members : Kind → (done : Bool) → List (List ℕ)
-outcome_members kind done =
+abbrev pub outcome_members : Kind → Option ℕ → (r15 : ℕ) → List (List ℕ)
+outcome_members kind word r15 =
     member (codes "exception") (name_value (exception_of kind))
     ∷ member (codes "stopped") (name_value (stop_of kind))
-    ∷ member (codes "done") (boolean done) ∷ []
+    ∷ member (codes "done") (boolean (is_done word r15 kind)) ∷ []
 
 -- the instruction, with the value of its text
 abbrev pub instruction_members : StepFacts → (text : List ℕ) → List (List ℕ)
 instruction_members f text =
     fetched_members f.number f.stepped.from f.word text
-    ++ outcome_members f.stepped.kind (is_done f.word (r15_in f.before) f.stepped.kind)
+    ++ outcome_members f.stepped.kind f.word (r15_in f.before)
 
-abbrev pub mode_members : (mode flags : List ℕ) → List (List ℕ)
-mode_members mode flags = member (codes "mode") (quoted mode) ∷ member (codes "flags") (quoted flags) ∷ []
+abbrev pub mode_members : (r15 : ℕ) → List (List ℕ)
+mode_members r15 =
+    member (codes "mode") (quoted (mode_name (mode_of r15)))
+    ∷ member (codes "flags") (quoted (flags_text r15)) ∷ []
 
 abbrev pub processor_members : StepFacts → List (List ℕ)
 processor_members f =
-    mode_members (mode_name (mode_of (r15_in f.after.regs))) (flags_text (r15_in f.after.regs))
+    mode_members (r15_in f.after.regs)
     ++ member (codes "registers") (registers_value f.before f.after.regs) ∷ []
 
 -- the interrupt lines, and what IOC asserts by them
-abbrev pub line_members : (lines : ℕ) → (fiq irq : Bool) → List (List ℕ)
-line_members lines fiq irq =
+abbrev pub line_members : (lines : ℕ) → Controller → List (List ℕ)
+line_members lines c =
     member (codes "lines") (word_value lines)
-    ∷ member (codes "fiq") (boolean fiq)
-    ∷ member (codes "irq") (boolean irq) ∷ []
+    ∷ member (codes "fiq") (boolean (fiq_of c))
+    ∷ member (codes "irq") (boolean (irq_of c)) ∷ []
 
 abbrev pub bus_members : StepFacts → List (List ℕ)
 bus_members f =
     member (codes "transfers") (array (map (transfer_value f.word f.after.bus.memc) f.transfers))
-    ∷ line_members f.lines (fiq_of f.after.bus.ioc) (irq_of f.after.bus.ioc)
+    ∷ line_members f.lines f.after.bus.ioc
 
 abbrev pub time_members : Stepped → (elapsed : ℕ) → List (List ℕ)
 time_members stepped elapsed =

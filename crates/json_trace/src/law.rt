@@ -6,4 +6,5 @@ ghost use Rattle.json_trace.specs.Json.{is_plain};
 /// The law of texts: the line of a word has no character that a string of JSON must escape.
 pub fn texts_need_no_escape()
     ensures { (word at : ℕ) (line : List ℕ) → IsShown word at line → list_all is_plain line ≡ true }
-{}
+{
+}

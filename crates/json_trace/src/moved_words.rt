@@ -1,6 +1,8 @@
 //! Words that are moved between registers and memory.
 
-ghost use Rattle.std.specs.Prelude.{◌<◌, ◌≤◌, ◌^◌};
+ghost use Rattle.std.specs.Prelude.{◌<◌, ◌≤◌};
+
+use bus_ticks::SPACE_END;
 
 /// Words that are moved, one after the other.
 #[derive(Clone, Copy)]
@@ -11,6 +13,6 @@ pub struct Transfers {
     pub address: u32,
     /// How many words.
     pub words: u32,
-    ghost below: { address < 2 ^ 26 },
+    ghost below: { address < SPACE_END },
     ghost few: { words ≤ 16 },
 }

@@ -1,7 +1,7 @@
 //! The registers that a step changed.
 
 ghost use Rattle.std.specs.Prelude.{◌≡◌, ◌<◌, ◌≤◌, ◌-◌, ◌++◌, OnOk, codes, string_bytes};
-ghost use Rattle.json_trace.specs.Json.{ended, member};
+ghost use Rattle.json_trace.specs.Json.{ended, member, word_value};
 ghost use Rattle.json_trace.specs.StepLine.{bank_suffix, changed, if_changed, registers_value};
 
 use crate::values::word_or_null;
@@ -103,11 +103,12 @@ fn put_bank(
 }
 
 // R15 as the last register of an object.
-fn put_last(out: &mut String, value: &str) -> Result<(), AllocError>
+fn put_last(out: &mut String, word: u32) -> Result<(), AllocError>
     ensures { OnOk result
         (string_bytes out.new
-        ≡ string_bytes out.old ++ (member (codes "R15") value.now ++ codes "}")) }
+        ≡ string_bytes out.old ++ (member (codes "R15") (word_value word) ++ codes "}")) }
 {
+    let value = word_or_null(Some(word));
     write!(out, "\"R15\":{value}}}")
 }
 
@@ -127,7 +128,6 @@ pub(crate) fn put_registers(
     put_bank(out, before, after, Mode::Fiq, 8)?;
     put_bank(out, before, after, Mode::Irq, 13)?;
     put_bank(out, before, after, Mode::Svc, 13)?;
-    let value = word_or_null(Some(after.get(Reg::R15)));
-    put_last(out, value.as_str())?;
+    put_last(out, after.get(Reg::R15))?;
     Ok(())
 }

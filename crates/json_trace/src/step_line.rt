@@ -4,6 +4,7 @@ ghost use Rattle.std.specs.Prelude.{◌≡◌, ◌++◌, List, ℕ, OnOk, codes,
 ghost use Rattle.asm_text.specs.Appended.{Appends};
 ghost use Rattle.json_trace.specs.Facts.{carried, facts_with};
 ghost use Rattle.json_trace.specs.Planned.{moved_words};
+ghost use Rattle.arm2_effect.specs.Modes.{r15_in};
 ghost use Rattle.json_trace.specs.Json.{ended, quoted, separated};
 ghost use Rattle.json_trace.specs.StepLine.{IsStepLine, IsTextValue, bus_members, fetched_members};
 ghost use Rattle.json_trace.specs.StepLine.{instruction_members, line_members, mode_members};
@@ -19,7 +20,7 @@ use crate::values::{
 use arm2_effect::{Kind, Reg, mode_of};
 use arm2_exec::{Machine, Traced};
 use bitflags::Flags;
-use ioc::{Asserted, Lines};
+use ioc::Lines;
 use std::alloc::AllocError;
 use std::fmt::Write;
 
@@ -49,8 +50,7 @@ fn put_instruction(out: &mut String, step: &StepRecord, machine: &Machine) -> Re
     let stepped = step.traced.stepped;
     let text = text_value(step.traced.word, stepped.from);
     put_fetched(out, step, text.as_str())?;
-    let done = is_done(step.traced.word, step.before[26], stepped.kind);
-    put_outcome(out, stepped.kind, done)?;
+    put_outcome(out, step)?;
     Ok(())
 }
 
@@ -64,37 +64,32 @@ fn put_fetched(out: &mut String, step: &StepRecord, text: &str) -> Result<(), Al
     let number = step.number;
     let from = word_or_null(Some(step.traced.stepped.from));
     let word = word_or_null(step.traced.word);
-    write!(
-        out,
-        "\"step\":{number},\"pc\":{from},\"word\":{word},\"text\":{text},"
-    )
+    write!(out, "\"step\":{number},\"pc\":{from},\"word\":{word},\"text\":{text},")
 }
 
 // And what came of it.
-fn put_outcome(out: &mut String, kind: Kind, done: bool) -> Result<(), AllocError>
-    ensures { OnOk result
-        (string_bytes out.new ≡ string_bytes out.old ++ ended (outcome_members kind done)) }
-{
-    let exception = name_value(exception_of(kind));
-    let stopped = name_value(stop_of(kind));
-    let done = boolean(done);
-    write!(
-        out,
-        "\"exception\":{exception},\"stopped\":{stopped},\"done\":{done},"
-    )
-}
-
-// The mode and the flags, and the name of what follows.
-fn put_mode(out: &mut String, mode: &str, flags: &str) -> Result<(), AllocError>
+fn put_outcome(out: &mut String, step: &StepRecord) -> Result<(), AllocError>
     ensures { OnOk result
         (string_bytes out.new
         ≡ string_bytes out.old
-        ++ (ended (mode_members mode.now flags.now) ++ (quoted (codes "registers") ++ codes ":"))) }
+        ++ ended (outcome_members step.now.traced.stepped.kind step.now.traced.word (r15_in step.now.before))) }
 {
-    write!(
-        out,
-        "\"mode\":\"{mode}\",\"flags\":\"{flags}\",\"registers\":"
-    )
+    let kind = step.traced.stepped.kind;
+    let exception = name_value(exception_of(kind));
+    let stopped = name_value(stop_of(kind));
+    let done = boolean(is_done(step.traced.word, step.before[26], kind));
+    write!(out, "\"exception\":{exception},\"stopped\":{stopped},\"done\":{done},")
+}
+
+// The mode and the flags, and the name of what follows.
+fn put_mode(out: &mut String, r15: u32) -> Result<(), AllocError>
+    ensures { OnOk result
+        (string_bytes out.new
+        ≡ string_bytes out.old ++ (ended (mode_members r15) ++ (quoted (codes "registers") ++ codes ":"))) }
+{
+    let mode = mode_name(mode_of(r15));
+    let flags = flags_text(r15);
+    write!(out, "\"mode\":\"{mode}\",\"flags\":\"{flags}\",\"registers\":")
 }
 
 // The members of the processor, each with a comma.
@@ -103,10 +98,7 @@ fn put_processor(out: &mut String, step: &StepRecord, machine: &Machine) -> Resu
         (string_bytes out.new
         ≡ string_bytes out.old ++ ended (processor_members (facts_with step.now machine.now))) }
 {
-    let r15 = machine.get(Reg::R15);
-    let mode = mode_name(mode_of(r15));
-    let flags = flags_text(r15);
-    put_mode(out, mode, flags.as_str())?;
+    put_mode(out, machine.get(Reg::R15))?;
     put_registers(out, &step.before, machine.registers())?;
     out.push_str(",")?;
     Ok(())
@@ -123,14 +115,14 @@ fn carried(step: &StepRecord) -> Option<Transfers>
 }
 
 // The interrupt lines, and what IOC asserts.
-fn put_lines(out: &mut String, lines: u32, asserted: Asserted) -> Result<(), AllocError>
+fn put_lines(out: &mut String, step: &StepRecord, machine: &Machine) -> Result<(), AllocError>
     ensures { OnOk result
         (string_bytes out.new
-        ≡ string_bytes out.old ++ (codes "," ++ ended (line_members lines asserted.fiq asserted.irq))) }
+        ≡ string_bytes out.old ++ (codes "," ++ ended (line_members step.now.lines.0 machine.now.bus.ioc))) }
 {
-    let lines = word_or_null(Some(lines));
-    let fiq = boolean(asserted.fiq);
-    let irq = boolean(asserted.irq);
+    let lines = word_or_null(Some(step.lines.bits()));
+    let fiq = boolean(machine.ioc().asserts_fiq());
+    let irq = boolean(machine.ioc().asserts_irq());
     write!(out, ",\"lines\":{lines},\"fiq\":{fiq},\"irq\":{irq},")
 }
 
@@ -142,7 +134,7 @@ fn put_bus(out: &mut String, step: &StepRecord, machine: &Machine) -> Result<(),
 {
     out.push_str("\"transfers\":")?;
     put_transfers(out, step.traced.word, machine.memc(), carried(step))?;
-    put_lines(out, step.lines.bits(), machine.ioc().asserted())?;
+    put_lines(out, step, machine)?;
     Ok(())
 }
 
@@ -156,10 +148,7 @@ fn put_time(out: &mut String, step: &StepRecord) -> Result<(), AllocError>
     let ticks = step.traced.stepped.ticks;
     let elapsed = step.elapsed;
     let next = word_or_null(Some(step.traced.stepped.to));
-    write!(
-        out,
-        "\"ticks\":{ticks},\"elapsed\":{elapsed},\"next\":{next}"
-    )
+    write!(out, "\"ticks\":{ticks},\"elapsed\":{elapsed},\"next\":{next}")
 }
 
 /// Adds the line of a step: an object, and the line's end.

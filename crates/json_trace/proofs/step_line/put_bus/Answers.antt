@@ -1,10 +1,9 @@
-use Rattle.std.proofs.Common.{◌≡◌, ◌∙◌, ◌++◌, Bool, List, ap, codes, map, string_bytes, subst}
-use Rattle.ioc.specs.Interrupts.{fiq_of, irq_of}
+use Rattle.std.proofs.Common.{◌≡◌, ◌++◌, List, map, string_bytes, subst}
 use Rattle.memc.specs.Memory.{Memory}
 use Rattle.json_trace.specs.Facts.{carried}
-use Rattle.json_trace.specs.Json.{array, ended}
+use Rattle.json_trace.specs.Json.{array}
 use Rattle.json_trace.specs.Planned.{moved_words}
-use Rattle.json_trace.specs.StepLine.{Transfer, line_members, transfer_value}
+use Rattle.json_trace.specs.StepLine.{Transfer, transfer_value}
 use Rattle.json_trace.proofs.JsonLaws.{value_and_rest}
 use Rattle.json_trace.proofs.step_line.put_bus.Goals as goal
 
@@ -19,12 +18,4 @@ returns c =
     let moved =
     subst (λ (ws : List Transfer). put ≡ named ++ array (map (transfer_value word c.args.machine.now.bus.memc) ws))
     c.carried.ensures at_memory in
-    let new = string_bytes c.put_lines.new.out in
-    let lines = c.args.step.now.lines.0 in
-    let fiq =
-    subst (λ (b : Bool). new ≡ put ++ (codes "," ++ ended (line_members lines b c.asserted.result.irq)))
-    (c.asserted.ensures.fiq ∙ ap fiq_of c.ioc.ensures) c.in_ok-put_lines.ensures in
-    let asserted =
-    subst (λ (b : Bool). new ≡ put ++ (codes "," ++ ended (line_members lines (fiq_of c.args.machine.now.bus.ioc) b)))
-    (c.asserted.ensures.irq ∙ ap irq_of c.ioc.ensures) fiq in
-    value_and_rest _ _ _ _ _ _ _ c.in_ok-push_str.ensures.bytes moved asserted
+    value_and_rest _ _ _ _ _ _ _ c.in_ok-push_str.ensures.bytes moved c.in_ok-put_lines.ensures

@@ -6,13 +6,6 @@ use Rattle.json_trace.proofs.values.flags_text.Goals as goal
 pub from_utf8_unchecked-requires : goal.from_utf8_unchecked-requires
 from_utf8_unchecked-requires c =
     ascii_utf8 _
-    (grind (
-      arith,
-      nat_tests,
-      c.flag_letter.ensures.ascii,
-      c.flag_letter-2.ensures.ascii,
-      c.flag_letter-3.ensures.ascii,
-      c.flag_letter-4.ensures.ascii,
-      c.flag_letter-5.ensures.ascii,
-      c.flag_letter-6.ensures.ascii,
-    ))
+    (grind (arith, nat_tests, c.flag_letter.ensures.ascii, c.flag_letter-2.ensures.ascii,
+    c.flag_letter-3.ensures.ascii, c.flag_letter-4.ensures.ascii, c.flag_letter-5.ensures.ascii,
+    c.flag_letter-6.ensures.ascii))
