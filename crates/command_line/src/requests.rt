@@ -132,7 +132,6 @@ fn add_value<'a>(
         Form::All => request.all = value == "true",
         Form::Path => request.path = value == "true",
         Form::Html => request.html = value == "true",
-        Form::Json => request.json = value == "true",
         Form::OptionalNumber | Form::NumberOption | Form::TicksOption | Form::WidthOption => {}
     }
     Ok(())
@@ -176,7 +175,6 @@ fn asked<'a>(
         fiq_source: false,
         path: false,
         html: false,
-        json: false,
         profile: None,
         files: Vec::new(alloc),
         word: "",
@@ -351,7 +349,6 @@ fn version<'a>(alloc: Global) -> Request<'a>
         fiq_source: false,
         path: false,
         html: false,
-        json: false,
         profile: None,
         files: Vec::new(alloc),
         word: "",

@@ -10,8 +10,6 @@ mod images;
 #[cfg(test)]
 mod instructions;
 #[cfg(test)]
-mod json;
-#[cfg(test)]
 mod lines;
 #[cfg(test)]
 mod machine_files;

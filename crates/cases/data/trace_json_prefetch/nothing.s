@@ -1,1 +1,0 @@
-; No word: no page lies at 1000000.

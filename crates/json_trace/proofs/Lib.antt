@@ -1,5 +1,0 @@
-mod WordsLaws
-pub mod JsonLaws
-mod TransferLaws
-pub mod RecordLaws
-mod PlainLaws

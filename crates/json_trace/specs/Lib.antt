@@ -1,5 +1,0 @@
-pub mod Json
-pub mod StepLine
-pub mod Records
-pub mod Planned
-pub mod Facts
