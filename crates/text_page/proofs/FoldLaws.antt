@@ -170,7 +170,7 @@ module _ (parts : Parts) where
           let more = take left back ++ new in
           let now_is : in_loop parts at nest ≡ front ++ more = all_open nest ∙ ap (λ xs. xs ++ new) kept_is ∙ append_assoc front (take left back) new in
           let more_is : length (second nest).new + (length (first nest).new + left) ≡ length more =
-              omega (arith, length-append (take left back) new, length-append (first nest).new (second nest).new, length-take-le left back within) in
+          omega (arith, length-append (take left back) new, length-append (first nest).new (second nest).new, length-take-le left back within) in
           let one = begun parts (kept parts at nest) (routine_at parts at) (r ∷ rows) in
           let other = begun parts (in_routine parts at nest) (loop_at parts at) (r ∷ rows) in
           ap (rows_inside (length back)) (parted nest) ∙ ap (λ n. rows_inside n (replicate gone Ended ++ (one ++ (other ++ behind nest)))) open_is
@@ -204,12 +204,12 @@ module _ (parts : Parts) where
       let routines : List Fold = kept parts at nest ++ one_new in
       let loops : List Fold = in_routine parts at nest ++ two_new in
       let in_second : rows_inside 0 (behind r rows nest) ≡ folded parts loops (r ∷ rows) =
-          ap (λ (ns : List Fold). r ∷ rows_inside 0 (lines_from parts ns rows)) ((second r rows nest).opened_is ∙ sym (append-nil loops)) ∙ ap (λ rs. r ∷ rs) (inside_of rows loops []) in
+      ap (λ (ns : List Fold). r ∷ rows_inside 0 (lines_from parts ns rows)) ((second r rows nest).opened_is ∙ sym (append-nil loops)) ∙ ap (λ rs. r ∷ rs) (inside_of rows loops []) in
       let plus : length two_new + 0 ≡ length two_new = omega arith in
       let in_first : rows_inside 0 (other ++ behind r rows nest) ≡ folded parts routines (r ∷ rows) =
-          (second r rows nest).inside 0 (r ∷ rows) (behind r rows nest)
-          ∙ (λ i. r ∷ rows_inside (plus i) (lines_from parts (((second r rows nest).opened_is ∙ ap (λ xs. xs ++ two_new) (first r rows nest).opened_is) i) rows))
-          ∙ ap (λ rs. r ∷ rs) (inside_of rows routines two_new) in
+      (second r rows nest).inside 0 (r ∷ rows) (behind r rows nest)
+      ∙ (λ i. r ∷ rows_inside (plus i) (lines_from parts (((second r rows nest).opened_is ∙ ap (λ xs. xs ++ two_new) (first r rows nest).opened_is) i) rows))
+      ∙ ap (λ rs. r ∷ rs) (inside_of rows routines two_new) in
       let rights = (first r rows nest).right (r ∷ rows) (other ++ behind r rows nest) ((second r rows nest).right (r ∷ rows) (behind r rows nest) right in_second) in_first in
       subst AreRight (sym (parted r rows nest)) (right_ends gone _ rights)
 
