@@ -201,7 +201,7 @@ pub fn destinations(
     let Some(around) = holds_along(alloc, handler, given, table)? else {
         return Ok(None);
     };
-    let _ = around;
+    let _ = (around, handler.graph.places());
     let found = destinations_in(alloc, handler, table)?;
     Ok(Some(found))
 }

@@ -238,6 +238,7 @@ pub fn left_on_trust(
         known: table,
         around: &around,
     };
+    let _ = handler.graph.places();
     let classes = addresses_on_trust(alloc, handler, table)?;
     let loops = loops_on_trust(alloc, handler, &found)?;
     Ok(Some(OnTrust { classes, loops }))
