@@ -12,7 +12,7 @@ ghost use Rattle.known_places.specs.Destinations.{PlaceGoesTo, WordGoesTo, desti
 use crate::table::holds_along;
 use arm2_decode::{DataImmediate, DataRegister, Instr, Operation, Register, decode};
 use arm2_effect::address_of;
-use control_flow::Place;
+use control_flow::{Place, graphs_are_well_formed};
 use known_words::{Given, Knowledge, Known, Start, Steps, Sum, Word, computed, narrowed, rotated};
 use loop_bounds::{Handler, place_in};
 use std::alloc::{AllocError, Global};
@@ -202,6 +202,7 @@ pub fn destinations(
         return Ok(None);
     };
     let _ = around;
+    graphs_are_well_formed(&handler.graph);
     let found = destinations_in(alloc, handler, table)?;
     Ok(Some(found))
 }

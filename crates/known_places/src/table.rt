@@ -18,7 +18,7 @@ use crate::limits::limited;
 use crate::loops::{Table, loops_on_trust};
 use crate::on_trust::OnTrust;
 use crate::word::{known_after, stays_in};
-use control_flow::{Edge, Label, Place, action_of};
+use control_flow::{Edge, Label, Place, action_of, graphs_are_well_formed};
 use known_words::{Given, Knowledge};
 use loop_bounds::{Handler, place_in};
 use numbered_walks::NumberedEdge;
@@ -262,6 +262,7 @@ pub fn left_on_trust(
         known: table,
         around: &around,
     };
+    graphs_are_well_formed(&handler.graph);
     let classes = addresses_on_trust(alloc, handler, &found)?;
     let loops = loops_on_trust(alloc, handler, &found)?;
     Ok(Some(OnTrust { classes, loops }))

@@ -21,6 +21,6 @@ returns-clause-each c = λ number low.
     subst (λ o. IfSome o (λ a. HoldsAlong h.image.now h.graph h.tree c.args.given.now a.items c.args.table.now)) c.in-Some.is
     c.in_ok-around.ensures in
     let whole = holds.whole in
-    gone_to h.image.now h.statement h.graph h.tree c.requires.graph.well_formed c.requires.tree.tree_is c.args.given.now
+    gone_to h.image.now h.statement h.graph h.tree c.graphs_are_well_formed.ensures c.requires.tree.tree_is c.args.given.now
     c.in-Some.around.items c.args.table.now holds number low (destination_at c.in_ok-found.found.items number)
     (c.in_ok-found.ensures.each number (omega (arith, low, whole)))

@@ -14,7 +14,7 @@ returns c =
     subst (λ o. IfSome o (λ a. HoldsAlong h.image.now h.graph h.tree given a.items table)) c.in-Some.is c.in_ok-around.ensures in
     let holds = subst (λ a. HoldsAlong h.image.now h.graph h.tree given a table) (sym c.deref.ensures.value) found in
     let whole = holds.whole in
-    justified h.image.now h.statement h.graph h.tree c.requires.graph.well_formed c.requires.tree given around table
+    justified h.image.now h.statement h.graph h.tree c.graphs_are_well_formed.ensures c.requires.tree given around table
     (record { classes = c.in_ok-classes.classes.items; loops = c.in_ok-loops.loops.items })
     (record {
       table = holds;
