@@ -247,7 +247,7 @@ module _ (words : Words) (st : Stated) (flow : Flow) (tree : Tree) (well : IsWel
       (all_kept ks ins c.number c.number_in so_far next c.there granted_so)
       (subst (λ w. IsThere (edge_at tree.edges c.number).to w next) (sym down) c.there)
       (subst (λ (v : Place). Leads edge_shape (HasEdge flow) v walk end) (sym c.place) rest) granted_on on in
-      (subst (KeepsTree tree) up on_there.0, (stepped, next, kept (w_of ks) s i stepped next e edge number within (sym from) holds has, on_there.1))
+      (subst (KeepsTree tree) up on_there.0, (stepped, next, kept (w_of ks) s i stepped next e edge number within (sym from) holds has so_far, on_there.1))
 
   none_kept : AreKept []
   none_kept x has = omega arith
