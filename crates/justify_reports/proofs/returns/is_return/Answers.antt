@@ -14,6 +14,6 @@ returns-then-may_write_pc c = (
 
 pub returns-else-may_write_pc : goal.returns-else-may_write_pc
 returns-else-may_write_pc c = (
-  λ e. absurd (false≢true e),
+  λ e. absurd (false≢true (sym c.if-may_write_pc.false ∙ e)),
   λ h. absurd (false≢true (sym c.if-may_write_pc.false ∙ c.may_write_pc.ensures ∙ h.writes)),
 )
