@@ -22,7 +22,7 @@ use Rattle.known_places.specs.Destinations.{destination_at}
 use Rattle.known_places.specs.declared.destination.Destination.{Destination}
 use Rattle.known_places.specs.declared.destination.Destination.TheVariants.{LinkLess, To, Unknown}
 use Rattle.justify_reports.specs.declared.returns.Going.{Going}
-use Rattle.justify_reports.specs.declared.returns.Going.TheVariants.{AfterCall, Back, Elsewhere, Out, Unseen}
+use Rattle.justify_reports.specs.declared.returns.Going.TheVariants.{AfterCall, Back, BackInside, Elsewhere, Out, Unseen}
 
 -- ## Which words return
 
@@ -52,8 +52,8 @@ abbrev pub leaves : Option Target → Bool
 leaves None = false
 leaves (Some target) = is_leave target.kind
 
--- Out of the handler: back to what was interrupted, or to an address; a word of the source there is no way
--- out, unless it is stated.
+-- Out of the handler: to the address in R14 at the entry less so many bytes, or to an address; where the source
+-- has a word that is no way out, unless the word is stated to leave.
 abbrev pub going_out : Words → (stated : Bool) → Destination → Going
 going_out words stated Unknown = Unseen
 going_out words stated (LinkLess bytes) = Back bytes
@@ -62,25 +62,26 @@ going_out words stated (To a) = if not stated && is_some (word_of words a) then 
 -- back to the word after a call
 abbrev pub going_back : (next : ℕ) → Destination → Going
 going_back next Unknown = Unseen
-going_back next (LinkLess bytes) = Unseen
+going_back next (LinkLess bytes) = BackInside bytes
 going_back next (To a) = if a == next then AfterCall else Elsewhere a
 
 -- to the place where a return leads by the graph
-abbrev pub going_to : Words → (stated : Bool) → Place → Destination → Going
-going_to words stated Exit = going_out words stated
-going_to words stated (At calls next) = going_back next
+abbrev pub going_by : Words → (stated : Bool) → Place → Destination → Going
+going_by words stated Exit = going_out words stated
+going_by words stated (At calls next) = going_back next
 
 abbrev pub going_of : Words → Option Target → List ℕ → Destination → Going
 going_of words target calls =
-    going_to words (leaves target) (if leaves target then Exit else return_place calls)
+    going_by words (leaves target) (if leaves target then Exit else return_place calls)
 
 -- ## Where one goes from all its places
 
--- what contradicts the statement is the gravest, and then what is not seen
+-- what goes elsewhere is the gravest, and then what is not seen
 abbrev pub gravity : Going → ℕ
 gravity (Back bytes) = 0
 gravity AfterCall = 0
 gravity (Out a) = 0
+gravity (BackInside bytes) = 1
 gravity Unseen = 1
 gravity (Elsewhere a) = 2
 
@@ -105,7 +106,7 @@ abbrev pub IsGoing : Words → Stated → Flow → Tree → List Destination →
 IsGoing words st flow tree destinations a =
     IsGravest (GoesFrom words st flow tree destinations a) (length flow.places)
 
--- ## Finding them
+-- ## Finding them, for clauses of private functions
 
 -- a going that is not graver leaves the old one
 abbrev pub graver : Option Going → Going → Going

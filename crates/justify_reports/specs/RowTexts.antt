@@ -10,7 +10,7 @@ use Rattle.text_rows.specs.Columns.{in_columns}
 use Rattle.text_rows.specs.Rows.{AreRows, IsShownRow, address_row, named_row}
 use Rattle.text_rows.specs.WordLines.{Numbered}
 use Rattle.justify_reports.specs.declared.returns.Going.{Going}
-use Rattle.justify_reports.specs.declared.returns.Going.TheVariants.{AfterCall, Back, Elsewhere, Out, Unseen}
+use Rattle.justify_reports.specs.declared.returns.Going.TheVariants.{AfterCall, Back, BackInside, Elsewhere, Out, Unseen}
 use Rattle.justify_reports.specs.declared.rows.Entry.{Entry}
 use Rattle.justify_reports.specs.declared.rows.Entry.TheVariants.{Access, Base, Loop, Return}
 use Rattle.justify_reports.specs.declared.rows.Row.{Row}
@@ -24,10 +24,13 @@ kind_text (Base class) = codes "  base  "
 kind_text (Return going) = codes "  return"
 kind_text (Loop bound) = codes "  loop  "
 
--- an address, or that of what was interrupted
+-- the address in R14 at the entry, less so many bytes
+abbrev pub link_text : (bytes : ℕ) → List ℕ
+link_text bytes = codes "R14 at entry" ++ (if bytes == 0 then [] else codes " - " ++ decimal bytes)
+
 abbrev pub going_text : Going → List ℕ
-going_text (Back bytes) =
-    codes "R14 at entry" ++ (if bytes == 0 then [] else codes " - " ++ decimal bytes)
+going_text (Back bytes) = link_text bytes
+going_text (BackInside bytes) = link_text bytes
 going_text AfterCall = codes "after its call"
 going_text (Out a) = codes "to " ++ hex8 a
 going_text Unseen = codes "unknown"

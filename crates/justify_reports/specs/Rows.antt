@@ -25,7 +25,7 @@ use Rattle.justify_reports.specs.Trust.{lists_class, trusts_class, trusts_loop}
 use Rattle.justify_reports.specs.declared.rows.Entry.{Entry}
 use Rattle.justify_reports.specs.declared.rows.Entry.TheVariants as entry
 use Rattle.justify_reports.specs.declared.returns.Going.{Going}
-use Rattle.justify_reports.specs.declared.returns.Going.TheVariants.{AfterCall, Back, Elsewhere, Out, Unseen}
+use Rattle.justify_reports.specs.declared.returns.Going.TheVariants.{AfterCall, Back, BackInside, Elsewhere, Out, Unseen}
 use Rattle.justify_reports.specs.declared.rows.Row.{Row}
 use Rattle.justify_reports.specs.declared.rows.Verdict.{Verdict}
 use Rattle.justify_reports.specs.declared.rows.Verdict.TheVariants as verdict
@@ -77,6 +77,7 @@ abbrev pub verdict_of : Going → Verdict
 verdict_of (Back bytes) = verdict.Follows
 verdict_of AfterCall = verdict.Follows
 verdict_of (Out a) = verdict.Follows
+verdict_of (BackInside bytes) = verdict.OnTrust
 verdict_of Unseen = verdict.OnTrust
 verdict_of (Elsewhere a) = verdict.False
 

@@ -50,15 +50,15 @@ unseen_text (Some trusted) = []
 -- what is on trust of every handler: the rest of what it is to keep a statement
 abbrev pub others_text : List ℕ
 others_text =
-    codes "On trust too: code unchanged, no exception or stop, the class of leave, stated\n"
-    ++ codes "jumps and calls, ways of branches, cycles of multiplies.\n"
+    codes "On trust too: code unchanged, no exception or stop, the class of leave, where\n"
+    ++ codes "returns, stated jumps and calls go, ways of branches, cycles of multiplies.\n"
 
 abbrev pub facts_text : List Given → List ℕ
 facts_text [] = codes "without facts at the entry"
 facts_text (g ∷ given) =
     codes "given " ++ (decimal (length (g ∷ given)) ++ codes " of the registers at the entry")
 
--- where the code contradicts some
+-- where some go elsewhere
 abbrev pub false_text : ℕ → List ℕ
 false_text count = if count == 0 then [] else decimal count ++ codes " FALSE, "
 

@@ -14,7 +14,7 @@ ghost use Rattle.text_explained.specs.Links.{counts_as_return, is_return_kind};
 ghost use Rattle.text_explained.specs.Taken.{is_reached};
 ghost use Rattle.known_places.specs.Destinations.{destination_at};
 ghost use Rattle.justify_reports.specs.Returns.{AreFound, AreReturns, HasReturn, IsReturn, going_back};
-ghost use Rattle.justify_reports.specs.Returns.{going_of, going_out, going_to, gravity, graver};
+ghost use Rattle.justify_reports.specs.Returns.{going_of, going_out, going_by, gravity, graver};
 ghost use Rattle.justify_reports.specs.Returns.{is_leave, leaves};
 
 use crate::classed::{add, sorted};
@@ -32,15 +32,17 @@ use word_shapes::instr_at;
 /// Where a word goes that returns or leaves the handler.
 #[derive(Clone, Copy)]
 pub(crate) enum Going {
-    /// Back to what was interrupted: to the address in R14 at the entry, less so many bytes.
+    /// Out of the handler, to the address in R14 at the entry, less so many bytes.
     Back(u32),
     /// To the word after its call.
     AfterCall,
     /// Out of the handler, to this address.
     Out(u32),
+    /// The same out of a routine: it is not seen whether that is the word after its call.
+    BackInside(u32),
     /// It is not seen.
     Unseen,
-    /// To this address, which is not where it is stated to go.
+    /// To this address, which is not where it is taken to go.
     Elsewhere(u32),
 }
 
@@ -84,7 +86,8 @@ fn going_back(next: u32, destination: Destination) -> Going
     ensures { result ≡ going_back next destination }
 {
     match destination {
-        Destination::Unknown | Destination::LinkLess(_) => Going::Unseen,
+        Destination::Unknown => Going::Unseen,
+        Destination::LinkLess(bytes) => Going::BackInside(bytes),
         Destination::To(address) => {
             if address == next {
                 Going::AfterCall
@@ -104,8 +107,8 @@ fn return_place(calls: &Calls) -> Place
     }
 }
 
-fn going_to(image: &Image, stated: bool, place: Place, destination: Destination) -> Going
-    ensures { result ≡ going_to image.now stated place destination }
+fn going_by(image: &Image, stated: bool, place: Place, destination: Destination) -> Going
+    ensures { result ≡ going_by image.now stated place destination }
 {
     match place {
         Place::Exit => going_out(image, stated, destination),
@@ -124,7 +127,7 @@ fn going_of(
     if leaves(target) {
         return going_out(image, true, destination);
     }
-    going_to(image, false, return_place(calls), destination)
+    going_by(image, false, return_place(calls), destination)
 }
 
 // ## Which words return
@@ -215,7 +218,7 @@ impl Going {
     {
         match self {
             Going::Back(_) | Going::AfterCall | Going::Out(_) => 0,
-            Going::Unseen => 1,
+            Going::BackInside(_) | Going::Unseen => 1,
             Going::Elsewhere(_) => 2,
         }
     }

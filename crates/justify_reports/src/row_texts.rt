@@ -7,7 +7,7 @@ ghost use Rattle.asm_text.specs.Appended.{Appends};
 ghost use Rattle.sources.specs.Lines.{AreLines};
 ghost use Rattle.text_rows.specs.WordLines.{numbered_at};
 ghost use Rattle.justify_reports.specs.RowTexts.{AreRowTexts, IsEnd, IsRowText, IsWordEnd, front_text};
-ghost use Rattle.justify_reports.specs.RowTexts.{going_text, kind_text, stated_text};
+ghost use Rattle.justify_reports.specs.RowTexts.{going_text, kind_text, link_text, stated_text};
 ghost use Rattle.justify_reports.specs.RowTexts.{verdict_text};
 
 use crate::returns::Going;
@@ -55,8 +55,8 @@ fn put_less(out: &mut Vec<u8>, bytes: u32) -> Result<(), AllocError>
     put_decimal(out, u64::from(bytes))
 }
 
-fn put_back(out: &mut Vec<u8>, bytes: u32) -> Result<(), AllocError>
-    ensures { OnOk result (out.new.items ≡ out.old.items ++ going_text (Going.Back bytes)) }
+fn put_link(out: &mut Vec<u8>, bytes: u32) -> Result<(), AllocError>
+    ensures { OnOk result (out.new.items ≡ out.old.items ++ link_text bytes) }
 {
     put(out, b"R14 at entry")?;
     if bytes == 0 {
@@ -77,9 +77,10 @@ fn put_going(out: &mut Vec<u8>, going: Going) -> Result<(), AllocError>
     ensures { OnOk result (out.new.items ≡ out.old.items ++ going_text going) }
 {
     match going {
-        Going::Back(bytes) => put_back(out, bytes),
+        Going::Back(bytes) => put_link(out, bytes),
         Going::AfterCall => put(out, b"after its call"),
         Going::Out(address) => put_to(out, address),
+        Going::BackInside(bytes) => put_link(out, bytes),
         Going::Unseen => put(out, b"unknown"),
         Going::Elsewhere(address) => put_to(out, address),
     }

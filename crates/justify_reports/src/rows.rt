@@ -31,7 +31,7 @@ pub(crate) enum Entry {
     Access(Class),
     /// The class that a rule for a base register states of a word.
     Base(Class),
-    /// Where a word goes that returns or leaves, by what is stated of it or by default.
+    /// Where a word goes that returns or leaves: that it does is stated of it, or nothing is.
     Return(Going),
     /// The most back edges that a stay in a loop takes.
     Loop(u32),
@@ -42,7 +42,7 @@ pub(crate) enum Entry {
 pub(crate) enum Verdict {
     Follows,
     OnTrust,
-    /// The code contradicts it.
+    /// Where it is done, it goes elsewhere than it is taken to go.
     False,
 }
 
@@ -147,7 +147,7 @@ fn verdict_of(going: Going) -> Verdict
 {
     match going {
         Going::Back(_) | Going::AfterCall | Going::Out(_) => Verdict::Follows,
-        Going::Unseen => Verdict::OnTrust,
+        Going::BackInside(_) | Going::Unseen => Verdict::OnTrust,
         Going::Elsewhere(_) => Verdict::False,
     }
 }

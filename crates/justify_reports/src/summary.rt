@@ -20,8 +20,8 @@ use text_rows::{put, put_decimal};
 
 // What is on trust of every handler.
 const OTHERS: &[u8] =
-    b"On trust too: code unchanged, no exception or stop, the class of leave, stated\n\
-    jumps and calls, ways of branches, cycles of multiplies.\n";
+    b"On trust too: code unchanged, no exception or stop, the class of leave, where\n\
+    returns, stated jumps and calls go, ways of branches, cycles of multiplies.\n";
 
 /// What is said behind the rows.
 #[derive(Clone, Copy)]
@@ -112,7 +112,7 @@ pub(crate) fn follows_count(rows: &[Row]) -> usize
     rows.iter().filter(|row| is_following(row.verdict)).count()
 }
 
-/// How many entries the code contradicts.
+/// How many say `FALSE`.
 pub(crate) fn false_count(rows: &[Row]) -> usize
     ensures { result ≡ false_count rows.now }
 {
