@@ -7,7 +7,7 @@ from running import TOP, shown
 ANY, SOURCES, IMAGES = "Any command", "Sources, with the line", "Images"
 STATEMENTS, GRAPH, LOOPS, PATH = "Statements", "The graph", "Loops", "The path"
 VISITS, MACHINES, PROFILES, CERTIFICATES = "Visits", "Machine files", "Cycle profiles", "Certificates"
-DRAFTS, EDGES, RESPONSES = "Drafts", "Edges", "Response times"
+DRAFTS, EDGES, RESPONSES, FACTS = "Drafts", "Edges", "Response times", "Files of facts"
 
 OF_SOURCE = (ANY, SOURCES, IMAGES)
 OF_HANDLER = (*OF_SOURCE, PROFILES, STATEMENTS, GRAPH, LOOPS)
@@ -19,7 +19,7 @@ MET_BY = {
     "draft": (*OF_SOURCE, DRAFTS, STATEMENTS),
     "bound": (*OF_HANDLER, PATH, EDGES),
     "explain": (*OF_HANDLER, PATH, CERTIFICATES),
-    "justify": (*OF_HANDLER, PATH, CERTIFICATES),
+    "justify": (*OF_HANDLER, PATH, FACTS),
     "graph": (*OF_HANDLER, PATH),
     "check": (*OF_HANDLER, CERTIFICATES),
     "visits": (*OF_HANDLER, PATH, VISITS),
@@ -90,12 +90,12 @@ def sections_of(outcome):
 
 def ended_early(outcome):
     """Whether an answer with status 1 and no refusal is the verdict No, the table of a bound or a response
-    that is more than it may be, a handler that never ends for visits, a run that does not keep its
-    statement, or a machine that stopped."""
+    that is more than it may be, entries of which not all follow, a handler that never ends for visits, a
+    run that does not keep its statement, or a machine that stopped."""
     verdict = re.fullmatch(rb"no: (\w+)\n", outcome.out)
     if verdict:
         return verdict[1].decode() in OBJECTIONS
-    if re.search(rb"^bound \d+ ticks, .*\n\Z", outcome.out, re.M):
+    if re.search(rb"^bound \d+ ticks, .*\n\Z|^\d+ of \d+ entries follow, ", outcome.out, re.M):
         return True
     if re.search(rb"^within \d+ ticks: missed.*\n\Z|^it never ends\n", outcome.out, re.M):
         return True
@@ -111,7 +111,7 @@ def fault_of(command, outcome):
     if outcome.status == 0:
         return f"status 0 and standard error {shown(outcome.err)}" if outcome.err else None
     if outcome.status == 1 and not outcome.err:
-        may_end_so = command in ("check", "explain", "follow", "respond", "run", "trace", "visits")
+        may_end_so = command in ("check", "explain", "follow", "justify", "respond", "run", "trace", "visits")
         return None if may_end_so and ended_early(outcome) else str(outcome)
     if outcome.status == 2:
         return None if outcome.err and not outcome.out else str(outcome)

@@ -61,6 +61,13 @@ IRQ = b"""\
 entry = 0x18
 leave = "ram"
 """
+# A fact on a register at the entry.
+FACTS = b"""\
+[[given]]
+register = "R13"
+from = 0x1000
+to = 0x8000
+"""
 # A statement that is begun.
 BEGUN = b"""\
 entry = 0x8000
@@ -197,6 +204,8 @@ def priced(bench, words, files):
         command(bench, f"explain {words} handler.toml", bound.files),
         # The bound is more than that, so the status is 1.
         command(bench, f"explain --at-most 20 {words} handler.toml", bound.files),
+        command(bench, f"justify {words} handler.toml", bound.files),
+        command(bench, f"justify --all --given facts.toml {words} handler.toml", {**bound.files, "facts.toml": FACTS}),
         command(bench, f"graph {words} handler.toml", bound.files),
         command(bench, f"check {words} handler.toml handler.cert", judged),
         command(bench, f"explain --certificate handler.cert {words} handler.toml", judged),

@@ -114,6 +114,44 @@ loop = [{header = \"wait\", first = \"wait\", last = \"again\", bound = 2}]";
 const LOOP_OF_2: &[u8] = b"entry = 0x8000
 loop = [{header = \"wait\", first = \"wait\", last = \"again\", bound = 1}]";
 
+// From the third last word of RAM up.
+const UP_TO_DEVICES: &[u8] = b"
+        MOV  R2,#0x3000000
+        SUB  R2,R2,#12
+        LDR  R0,[R12]
+wait    STR  R3,[R2],#4
+        SUBS R0,R0,#1
+again   BNE  wait
+        SUBS PC,R14,#4
+";
+
+const RAM_TWICE: &[u8] = b"entry = 0x8000
+access = [{at = \"wait\", class = \"ram\"}]
+loop = [{header = \"wait\", first = \"wait\", last = \"again\", bound = 1}]";
+
+const RAM_4_TIMES: &[u8] = b"entry = 0x8000
+access = [{at = \"wait\", class = \"ram\"}]
+loop = [{header = \"wait\", first = \"wait\", last = \"again\", bound = 3}]";
+
+// From the second word of the devices down.
+const DOWN_TO_RAM: &[u8] = b"
+        MOV  R2,#0x3000000
+        ADD  R2,R2,#4
+        LDR  R0,[R12]
+wait    STR  R3,[R2],#-4
+        SUBS R0,R0,#1
+again   BNE  wait
+        SUBS PC,R14,#4
+";
+
+const DEVICES_TWICE: &[u8] = b"entry = 0x8000
+access = [{at = \"wait\", class = \"io\"}]
+loop = [{header = \"wait\", first = \"wait\", last = \"again\", bound = 1}]";
+
+const DEVICES_3_TIMES: &[u8] = b"entry = 0x8000
+access = [{at = \"wait\", class = \"io\"}]
+loop = [{header = \"wait\", first = \"wait\", last = \"again\", bound = 2}]";
+
 // From 3 down to 0, and once more.
 const BELOW: &[u8] = b"
         MOV  R0,#3
@@ -230,8 +268,23 @@ fn bases_that_are_given(rt: HostRuntime) -> Result<(), Fail> {
 
 #[test]
 fn bases_in_a_loop(rt: HostRuntime) -> Result<(), Fail> {
-    let found = classes(rt.alloc(), TURNS, LOOP, &[])?;
-    assert!(rt; found.as_slice() == [0x8010].as_slice());
+    assert!(rt; classes(rt.alloc(), TURNS, LOOP, &[])?.is_empty());
+    Ok(())
+}
+
+#[test]
+fn bases_that_rise(rt: HostRuntime) -> Result<(), Fail> {
+    assert!(rt; classes(rt.alloc(), UP_TO_DEVICES, RAM_TWICE, &[])?.is_empty());
+    let past = classes(rt.alloc(), UP_TO_DEVICES, RAM_4_TIMES, &[])?;
+    assert!(rt; past.as_slice() == [0x800C].as_slice());
+    Ok(())
+}
+
+#[test]
+fn bases_that_fall(rt: HostRuntime) -> Result<(), Fail> {
+    assert!(rt; classes(rt.alloc(), DOWN_TO_RAM, DEVICES_TWICE, &[])?.is_empty());
+    let below = classes(rt.alloc(), DOWN_TO_RAM, DEVICES_3_TIMES, &[])?;
+    assert!(rt; below.as_slice() == [0x800C].as_slice());
     Ok(())
 }
 

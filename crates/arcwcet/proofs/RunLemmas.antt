@@ -2,6 +2,8 @@
 use Rattle.std.proofs.Common.{◌≡◌, ◌≢◌, ◌∙◌, ℕ, Bool, true, false, codes, List, [], take, Option, Some, None, Result, Ok, Err, OnOk, refl, sym, ap, subst, inl, inr, arith}
 use Rattle.std.proofs.KnownBytes.{Appends-nil}
 use Rattle.std.specs.Prelude.{OnErr}
+use Rattle.std.specs.Result.{IsErrAnd}
+use Rattle.known_words.specs.declared.given.Given.{Given}
 use Rattle.std.specs.Io.KnownBytes.{Appends}
 use Rattle.bus_ticks.specs.declared.profile.Profile.{Profile}
 use Rattle.outputs.specs.Output.{FailsSince, TakesFront}
@@ -17,7 +19,8 @@ use Rattle.command_line.specs.declared.line.Command.{Command}
 use Rattle.command_line.specs.declared.line.Command.TheVariants as command
 use Rattle.arcwcet.specs.Files.{FailsToRead, Inputs, ReadsAll, Reading, Texts, Writing, inputs_of, names_of}
 use Rattle.arcwcet.specs.Refusals.{Says, SaysRefused, Saying, TakesSome, refusal_of, shows_why, store_fault_name}
-use Rattle.arcwcet.specs.Reports.{Plain, Report, answered, judged, priced, report_by, report_of, unpriced}
+use Rattle.arcwcet.specs.Facts.{AreFacts, HasNoFacts}
+use Rattle.arcwcet.specs.Reports.{Plain, Report, answered, by_facts, judged, priced, report_by, report_of, unpriced}
 use Rattle.arcwcet.specs.Run.{HasAnswered, HasPrinted, HasWritten, PrintsReport, Runs, RunsAsm, RunsBy, RunsOf, answer_status, report_from, report_status, store_status}
 use Rattle.arcwcet.specs.declared.fault.StoreFault.{StoreFault}
 use Rattle.arcwcet.specs.declared.fault.StoreFault.TheVariants as store_fault
@@ -41,6 +44,7 @@ exit_of report_fault.NoSuchEntry = of_other (λ e. cc e) (λ e. cc e) refl
 exit_of report_fault.NotVector = of_other (λ e. cc e) (λ e. cc e) refl
 exit_of report_fault.NotReached = of_other (λ e. cc e) (λ e. cc e) refl
 exit_of (report_fault.WordsMeet a) = of_other (λ e. cc e) (λ e. cc e) refl
+exit_of (report_fault.Given f) = of_other (λ e. cc e) (λ e. cc e) refl
 exit_of report_fault.NoSuchEdge = of_other (λ e. cc e) (λ e. cc e) refl
 exit_of (report_fault.NotFree a) = of_other (λ e. cc e) (λ e. cc e) refl
 exit_of (Statement f) = of_other (λ e. cc e) (λ e. cc e) refl
@@ -395,6 +399,44 @@ module _ {O : Type 0} (taken : O → Option (List ℕ)) (failures : O → ℕ) (
       → (answer : Result Bool ReportFault) → answer ≡ answered result → PrintsReport taken failures (priced file Is IsFault) before after answer
   answered_yes file Is IsFine IsFault result h answer is =
       answered_judged file (λ p. Plain (Is p)) IsFine IsFault answer (priced_plain file Is IsFine IsFault result h answer is)
+
+  -- ## By facts
+
+  module _ (file : Option (List ℕ)) (of_facts : List Given → Report) where
+    -- by those that were read
+    pub with_facts : (facts : List Given) → AreFacts file facts → (answer : Result Bool ReportFault) → PrintsReport taken failures (of_facts facts) before after answer → PrintsReport taken failures (by_facts file of_facts) before after answer
+    with_facts facts are (Ok x) h =
+        let p = h.printed in
+        record {
+          printed = record { text = p.text; is_text = record { facts = facts; are = are; holds = p.is_text }; printed = p.printed };
+          fault = tt;
+          quiet = tt;
+          device = λ e. cc e;
+        }
+    with_facts facts are (Err fault) h = record {
+      printed = tt;
+      fault = inl (record { facts = facts; are = are; holds = h.fault });
+      quiet = h.quiet;
+      device = λ e.
+          let f = h.device e in
+          record { text = f.text; is_text = (f.is_text.0, record { facts = facts; are = are; holds = f.is_text.1 }); taken = f.taken; failed = f.failed };
+    }
+
+    no_facts_by_device : (f : Option (List ℕ)) → HasNoFacts f Device → ⊥
+    no_facts_by_device None h = h
+    no_facts_by_device (Some t) h = h
+
+    -- where none were read
+    pub without_facts : after ≡ before → (fault : ReportFault) → HasNoFacts file fault → (answer : Result Bool ReportFault) → IsErrAnd answer (λ e. e ≡ fault) → PrintsReport taken failures (by_facts file of_facts) before after answer
+    without_facts same fault none (Ok x) is = absurd is
+    without_facts same fault none (Err e) is = record {
+      printed = tt;
+      fault = inr (subst (HasNoFacts file) (sym is) none);
+      quiet = λ other. same;
+      device = λ d.
+          let here : e ≡ Device = cc d in
+          absurd (no_facts_by_device file (subst (HasNoFacts file) (sym is ∙ here) none));
+    }
 
   -- the same answer by another name
   pub same_answer : (report : Report) (answer other : Result Bool ReportFault) → other ≡ answer → PrintsReport taken failures report before after answer → PrintsReport taken failures report before after other

@@ -1,4 +1,5 @@
 pub mod Announced
+pub mod Facts
 pub mod Files
 pub mod Input
 pub mod FileFaults

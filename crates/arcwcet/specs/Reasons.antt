@@ -3,7 +3,7 @@ use Rattle.std.specs.Prelude.{◌≡◌, ℕ, List, []}
 use Rattle.sources.specs.Lines.{AreLines}
 use Rattle.sources.specs.declared.read.Source.{Source}
 use Rattle.text_refusals.specs.FaultyLines.{AreFaultyLines}
-use Rattle.text_refusals.specs.FileTexts.{IsMachineText, IsProfileText}
+use Rattle.text_refusals.specs.FileTexts.{IsGivenText, IsMachineText, IsProfileText}
 use Rattle.text_refusals.specs.Reasons.{IsGraphReason, IsLoopsReason}
 use Rattle.text_refusals.specs.Refused.{IsStatementText}
 use Rattle.text_refusals.specs.Texts.{IsFaultyRow}
@@ -37,6 +37,7 @@ abbrev pub IsFileReason : RefusedFiles → ReportFault → List ℕ → Type 0
 IsFileReason files (report_fault.Source fault) text = IsSourceReason files.source.now text
 IsFileReason files (report_fault.MachineFile fault) text = IsMachineText files.machine.now fault text
 IsFileReason files (report_fault.Profile fault) text = IsProfileText files.profile.now fault text
+IsFileReason files (report_fault.Given fault) text = IsGivenText files.given.now fault text
 IsFileReason files fault text = text ≡ []
 
 -- of work on a source that has stopped

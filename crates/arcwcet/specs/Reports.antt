@@ -32,12 +32,14 @@ use Rattle.explain_reports.specs.declared.explain.TableForm.{TableForm}
 use Rattle.follow_reports.specs.FollowReport.{IsFollowRefused, IsFollowReport}
 use Rattle.follow_reports.specs.FollowVisits.{AreNotFollowed, IsFollowVisitsReport}
 use Rattle.justify_reports.specs.JustifyReport.{IsJustifyReport}
+use Rattle.known_words.specs.declared.given.Given.{Given}
 use Rattle.response_reports.specs.Question.{FiqQuestion, Question}
 use Rattle.response_reports.specs.RespondReport.{IsRespondRefused, IsRespondReport}
 use Rattle.command_line.specs.Line.{Asked}
 use Rattle.command_line.specs.declared.line.Command.{Command}
 use Rattle.command_line.specs.declared.line.Command.TheVariants as command
 use Rattle.command_line.specs.declared.line.CommandNumbers.{CommandNumbers}
+use Rattle.arcwcet.specs.Facts.{ByFacts, FactsFault, facts_file}
 use Rattle.arcwcet.specs.Files.{Inputs}
 
 -- the texts of each answer, and the faults
@@ -66,6 +68,14 @@ judged file Is IsFault =
 -- one that answers yes
 abbrev pub priced : Option (List ℕ) → (Profile → List ℕ → Type 0) → (Profile → ReportFault → Type 0) → Report
 priced file Is IsFault = judged file (λ p. Plain (Is p)) IsFault
+
+-- a report by the facts of a file, or by none where there is no file
+abbrev pub by_facts : Option (List ℕ) → (List Given → Report) → Report
+by_facts file of_facts =
+    record {
+      IsText = λ answer text. ByFacts file (λ facts. (of_facts facts).IsText answer text);
+      IsFault = FactsFault file (λ facts. (of_facts facts).IsFault);
+    }
 
 abbrev pub bursts_of : CommandNumbers → Bursts
 bursts_of n = record { count = n.bursts; every = n.burst_every }
@@ -137,6 +147,11 @@ version_line = codes "arcwcet 1.0.0\n"
 abbrev pub version_report : Report
 version_report = unpriced (λ text. text ≡ version_line) (λ fault. fault ≡ report_fault.Device)
 
+-- what `justify` prints by facts
+abbrev pub justified : Inputs → (all : Bool) → List Given → Report
+justified i all facts =
+    judged i.profile (IsJustifyReport i.source i.second facts all) (IsRefused i.source i.second)
+
 -- What a command prints, with its answer: whether a run did all its steps, a bound is enough, a response is
 -- within what is wanted, a handler with visits ends, a certificate proves a bound, enough of a statement
 -- follows, a run keeps its statement; the others answer yes.
@@ -179,8 +194,7 @@ module _ (asked : Asked) (i : Inputs) (typed : List ℕ) where
       (IsRefused i.source i.second)
   report_by command.Verdict =
       judged i.profile (IsVerdictReport i.source i.second i.third) (IsCheckRefused i.source i.second i.third)
-  report_by command.Justify =
-      judged i.profile (IsJustifyReport i.source i.second [] asked.all) (IsRefused i.source i.second)
+  report_by command.Justify = by_facts (facts_file i) (justified i asked.all)
   report_by command.Follow =
       judged i.profile (IsFollowReport i.source i.second i.third) (IsFollowRefused i.source i.second i.third)
   report_by command.FollowVisits =

@@ -1,6 +1,6 @@
-//! Files that are announced before they are read.
+//! Files that are announced when they are read.
 
-ghost use Rattle.std.specs.Prelude.{◌≡◌};
+ghost use Rattle.std.specs.Prelude.{◌≡◌, false};
 ghost use Rattle.arcwcet.specs.Announced.{reads_announced, writes_announced};
 
 use crate::fault::{FileFault, StoreFault};
@@ -17,15 +17,22 @@ pub struct AnnouncedStore<S: Store, L: Output> {
     pub store: S,
     /// What takes a line for each file that is read.
     pub lines: L,
+    /// Whether lines are shown where nobody asked for them.
+    pub unasked: bool,
 }
 
 impl<S: Store, L: Output> AnnouncedStore<S, L> {
-    /// The store, and what takes its lines.
+    /// The store, and what takes its lines, which are shown where they are asked for.
     pub fn new(store: S, lines: L) -> Self
         ensures store { result.store ≡ store }
         ensures lines { result.lines ≡ lines }
+        ensures asked { result.unasked ≡ false }
     {
-        AnnouncedStore { store, lines }
+        AnnouncedStore {
+            store,
+            lines,
+            unasked: false,
+        }
     }
 }
 

@@ -3,7 +3,7 @@ ghost use Rattle.command_line.specs.Line.{Asked, asked_in};
 ghost use Rattle.command_line.specs.Rows.{asked_of};
 ghost use Rattle.handlers.specs.FaultText.{TakesOrFails, refusal_line};
 ghost use Rattle.progress.specs.Watched.{inner};
-ghost use Rattle.arcwcet.specs.Announced.{reads_announced, writes_announced};
+ghost use Rattle.arcwcet.specs.Announced.{reads_announced, shows_lines, writes_announced};
 ghost use Rattle.arcwcet.specs.Files.{ReadsAll, Texts, inputs_of, names_of};
 ghost use Rattle.arcwcet.specs.Kept.{inputs_lent};
 ghost use Rattle.arcwcet.specs.Refusals.{Says};
@@ -142,9 +142,17 @@ pub fn program<S: Store, I: Input, O: Output, E: Output>(
     obey(alloc, asked, store, input, out, err)
 }
 
+// Whether lines on what is being done are shown.
+fn shows_lines<S: Store, L: Output>(asked: &Request<'_>, store: &AnnouncedStore<S, L>) -> bool
+    ensures { result ≡ shows_lines (asked_of asked.now) store.now }
+{
+    asked.progress || store.unasked
+}
+
 /// Runs the program as [`program`] does, and shows what is being done where the words ask for it by
-/// `--progress`: a line with its name before a file is read, and one where each 16 MiB of what is printed
-/// begin. Where these lines are lost, nothing else changes. Without `--progress` there are none.
+/// `--progress`, or the store shows it unasked: a line with its name before a file is read, and one where
+/// each 16 MiB of what is printed begin. Where these lines are lost, nothing else changes. Else there are
+/// none.
 pub fn shown_program<S: Store, I: Input, O: Output, E: Output, L: Output>(
     alloc: Global,
     words: &[String],
@@ -160,15 +168,15 @@ pub fn shown_program<S: Store, I: Input, O: Output, E: Output, L: Output>(
         × (out.new ≡ out.old) × (store.new ≡ store.old) × (input.new ≡ input.old) }
     ensures no_usage { asked_in words.now ≢ None → result ≢ 2 }
 
-    // What the words ask for was done, with a line before each file that was read.
-    ensures shown { (asked : Asked) → asked_in words.now ≡ Some asked → asked.progress ≡ true
+    // What the words ask for was done, with a line for each file that was read.
+    ensures shown { (asked : Asked) → asked_in words.now ≡ Some asked → shows_lines asked store.old ≡ true
         → RunsAsked (reads_announced L.taken L.failures S.read_gives) (writes_announced S.write_gives)
         I.remaining I.failures (inner O.taken) (inner O.failures)
         (Says E.taken E.failures asked err.old err.new) asked store.old store.new input.old input.new
         out.old out.new result }
 
-    // Without `--progress` the same was done, and no line was shown.
-    ensures unshown { (asked : Asked) → asked_in words.now ≡ Some asked → asked.progress ≡ false
+    // Where neither asks for lines the same was done, and none was shown.
+    ensures unshown { (asked : Asked) → asked_in words.now ≡ Some asked → shows_lines asked store.old ≡ false
         → RunsAsked S.read_gives S.write_gives I.remaining I.failures O.taken O.failures
         (Says E.taken E.failures asked err.old err.new) asked store.old.store store.new.store input.old
         input.new out.old.out out.new.out result
@@ -181,7 +189,8 @@ pub fn shown_program<S: Store, I: Input, O: Output, E: Output, L: Output>(
         Ok(asked) => asked,
         Err(fault) => return line_status(fault, err),
     };
-    if asked.progress {
+    let shown = shows_lines(&asked, store);
+    if shown {
         return obey(alloc, asked, store, input, out, err);
     }
     obey(alloc, asked, &mut store.store, input, &mut out.out, err)

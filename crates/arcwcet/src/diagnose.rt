@@ -15,7 +15,7 @@ use outputs::{Output, write_whole};
 use sources::Source;
 use std::alloc::{AllocError, Global};
 use text_refusals::{
-    faulty_lines, faulty_text, graph_reason, loops_reason, machine_text, profile_text,
+    faulty_lines, faulty_text, given_text, graph_reason, loops_reason, machine_text, profile_text,
     statement_text, words_of,
 };
 
@@ -28,6 +28,8 @@ pub struct RefusedFiles<'a> {
     pub machine: &'a [u8],
     /// The text of its cycle profile's file.
     pub profile: &'a [u8],
+    /// The text of its file of facts.
+    pub given: &'a [u8],
 }
 
 // The lines of a source that have faults.
@@ -50,6 +52,7 @@ fn file_text(
         ReportFault::Source(_) => source_text(alloc, files.source),
         ReportFault::MachineFile(fault) => machine_text(alloc, files.machine, fault),
         ReportFault::Profile(fault) => profile_text(alloc, files.profile, fault),
+        ReportFault::Given(fault) => given_text(alloc, files.given, fault),
         _ => Ok(Vec::new(alloc)),
     }
 }
@@ -78,8 +81,8 @@ fn stop_text(
 }
 
 /// What shows why a report is refused: of a refusal that comes with its source, the rows of the statement,
-/// the place of the flow graph or the loops that have the fault; of a refused source, machine file or cycle
-/// profile its lines with faults; else nothing, as the refusal's one line says all.
+/// the place of the flow graph or the loops that have the fault; of a refused source, machine file, cycle
+/// profile or file of facts its lines with faults; else nothing, as the refusal's one line says all.
 ///
 /// # Errors
 ///
@@ -107,10 +110,15 @@ fn files_of<'b>(job: Job<'b, '_>) -> RefusedFiles<'b> {
         Command::FollowVisits => inputs.fourth,
         _ => &[],
     };
+    let given = match job.request.command {
+        Command::Justify => inputs.third,
+        _ => &[],
+    };
     RefusedFiles {
         source: inputs.source,
         machine,
         profile: inputs.profile.unwrap_or(&[]),
+        given,
     }
 }
 

@@ -5,6 +5,7 @@
 mod announced;
 mod commands;
 mod diagnose;
+mod facts;
 mod fault;
 mod files;
 mod input;
@@ -38,7 +39,7 @@ pub use machine_reports::{
     RunTo, ShownRegisters, ShownSteps, debug_report, run_report, run_to_report, trace_report,
 };
 pub use outputs::{Output, OutputFault, write_whole};
-pub use progress::WatchedOutput;
+pub use progress::{ClockTimer, LateOutput, Timer, WatchedOutput};
 pub use response_reports::{AskedFiq, AskedResponse, respond_report};
 pub use responses::{
     irq_costs_its_entry, response_law, some_run_serves, unmasked_is_taken, visited_response_law,

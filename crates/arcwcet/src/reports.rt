@@ -1,6 +1,6 @@
 //! The reports that commands print.
 
-ghost use Rattle.std.specs.Prelude.{◌≡◌, [], drop, map, option_map};
+ghost use Rattle.std.specs.Prelude.{◌≡◌, drop, map, option_map};
 ghost use Rattle.outputs.specs.OnTheWay.{Adds};
 ghost use Rattle.handlers.specs.Priced.{Priced};
 ghost use Rattle.handlers.specs.Refusal.{fault_only};
@@ -14,17 +14,19 @@ ghost use Rattle.explain_reports.specs.PageReport.{IsPageReport};
 ghost use Rattle.explain_reports.specs.Verdict.{ExplainsVerdict};
 ghost use Rattle.follow_reports.specs.FollowReport.{FollowsRun};
 ghost use Rattle.follow_reports.specs.FollowVisits.{FollowsVisitedRun};
-ghost use Rattle.justify_reports.specs.JustifyReport.{ReportsJustified};
 ghost use Rattle.machine_reports.specs.RunTo.{ReportsRunTo};
 ghost use Rattle.response_reports.specs.Question.{fiq_question};
 ghost use Rattle.response_reports.specs.RespondReport.{Responds};
 ghost use Rattle.command_line.specs.Rows.{asked_of};
+ghost use Rattle.arcwcet.specs.Facts.{facts_file};
 ghost use Rattle.arcwcet.specs.Kept.{inputs_lent};
-ghost use Rattle.arcwcet.specs.Reports.{IsDrawn, answered, bursts_of, extent_of, fiq_asked_in, fiq_files};
-ghost use Rattle.arcwcet.specs.Reports.{fiq_source_in, form_of, priced, question_in, rate_of};
+ghost use Rattle.arcwcet.specs.Reports.{IsDrawn, answered, bursts_of, by_facts, extent_of, fiq_asked_in};
+ghost use Rattle.arcwcet.specs.Reports.{fiq_files, fiq_source_in, form_of, justified, priced};
+ghost use Rattle.arcwcet.specs.Reports.{question_in, rate_of};
 ghost use Rattle.arcwcet.specs.Reports.{report_of, version_line, version_report};
 ghost use Rattle.arcwcet.specs.Run.{PrintsReport};
 
+use crate::facts::{facts_file, facts_of};
 use crate::files::{Inputs, behind_one, behind_two};
 use bound_reports::{
     AskedEdge, VisitRate, VisitedHandler, print_bound, print_tight, visits_report,
@@ -37,6 +39,7 @@ use explain_reports::{
 use follow_reports::{FollowedRun, FollowedVisits, follow_report, follow_visits_report};
 use handlers::{Refusal, ReportFault};
 use justify_reports::{JustifiedHandler, justify_report};
+use known_words::Given;
 use machine_reports::{
     Front, RunTo, ShownRegisters, ShownSteps, debug_report, machine_report, run_to_report,
 };
@@ -389,24 +392,39 @@ fn print_verdict<'b, O: Output>(
     verdict_report(alloc, checked, inputs.profile, out)
 }
 
-// `justify`, of a source and a statement.
+// `justify` by facts, of a source and a statement.
 fn print_justified<'b, O: Output>(
+    alloc: Global,
+    inputs: Inputs<'b>,
+    facts: &[Given],
+    all: bool,
+    out: &mut O,
+) -> Result<bool, Refusal<'b>>
+    ensures { PrintsReport O.taken O.failures (justified (inputs_lent inputs.entry) all facts.now)
+        out.old out.new (fault_only result) }
+{
+    let justified = JustifiedHandler {
+        source: inputs.source,
+        statement: inputs.second,
+        given: facts,
+        all,
+    };
+    justify_report(alloc, justified, inputs.profile, out)
+}
+
+// `justify`, of a source, a statement and a file of facts, if there is one. Its refusal comes first.
+fn print_given<'b, O: Output>(
     alloc: Global,
     inputs: Inputs<'b>,
     all: bool,
     out: &mut O,
 ) -> Result<bool, Refusal<'b>>
-    ensures { Priced (inputs_lent inputs.entry).profile
-        (λ p. ReportsJustified O.taken O.failures inputs.entry.source.now inputs.entry.second.now [] all p
-        out.old out.new (fault_only result)) out.old out.new (fault_only result) }
+    ensures { PrintsReport O.taken O.failures
+        (by_facts (facts_file (inputs_lent inputs.entry)) (justified (inputs_lent inputs.entry) all))
+        out.old out.new (fault_only result) }
 {
-    let justified = JustifiedHandler {
-        source: inputs.source,
-        statement: inputs.second,
-        given: &[],
-        all,
-    };
-    justify_report(alloc, justified, inputs.profile, out)
+    let facts = facts_of(alloc, facts_file(inputs))?;
+    print_justified(alloc, inputs, &facts, all, out)
 }
 
 // `follow`, of a source, a statement and a machine file.
@@ -488,7 +506,7 @@ pub(crate) fn print<'b, O: Output>(
         Command::Respond => print_response(alloc, job, out),
         Command::Explain => print_explanation(alloc, job, out),
         Command::Verdict => print_verdict(alloc, inputs, out),
-        Command::Justify => print_justified(alloc, inputs, job.request.all, out),
+        Command::Justify => print_given(alloc, inputs, job.request.all, out),
         Command::Follow => print_followed(alloc, inputs, out),
         Command::FollowVisits => print_followed_visits(alloc, inputs, out),
         Command::Graph => {

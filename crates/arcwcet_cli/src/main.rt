@@ -1,7 +1,11 @@
 //! Bounds the run time of interrupt handlers.
 #![tactic(auto)]
 
-use arcwcet::{AnnouncedStore, HostStore, StreamInput, StreamOutput, WatchedOutput, shown_program};
+use arcwcet::{
+    AnnouncedStore, ClockTimer, HostStore, LateOutput, StreamInput, StreamOutput, WatchedOutput,
+    shown_program,
+};
+use std::io::{IsTerminal, Stderr};
 use std::process::ExitCode;
 use std::rt::Env;
 use std::{env, io};
@@ -37,6 +41,22 @@ fn words_of<R: Env + AllocGlobal>(rt: &R) -> Result<Vec<String>, WordsFault> {
     }
 }
 
+// Whether a word is the option for lines on what is being done, wherever it stands.
+fn asks_for_progress(words: &[String]) -> bool {
+    words.iter().any(|word| word.as_str() == "--progress")
+}
+
+fn late_output(
+    rt: &HostRuntime,
+    at_once: bool,
+) -> LateOutput<StreamOutput<Stderr>, ClockTimer<'_, HostRuntime>> {
+    LateOutput {
+        out: StreamOutput::new(rt.stderr()),
+        timer: ClockTimer::new(rt),
+        at_once,
+    }
+}
+
 fn main(rt: HostRuntime) -> ExitCode {
     let alloc = rt.alloc();
     let words = match words_of(&rt) {
@@ -46,13 +66,12 @@ fn main(rt: HostRuntime) -> ExitCode {
             return ExitCode::from(fault.status());
         }
     };
-    // Lines on what is being done go to standard error too.
-    let mut store = AnnouncedStore::new(HostStore::new(&rt), StreamOutput::new(rt.stderr()));
+    // Lines on what is being done go to standard error too: at a terminal of themselves, but late.
+    let at_once = asks_for_progress(&words);
+    let mut store = AnnouncedStore::new(HostStore::new(&rt), late_output(&rt, at_once));
+    store.unasked = rt.stderr().is_terminal();
     let mut input = StreamInput::new(rt.reader());
-    let mut out = WatchedOutput::new(
-        StreamOutput::new(rt.stdout()),
-        StreamOutput::new(rt.stderr()),
-    );
+    let mut out = WatchedOutput::new(StreamOutput::new(rt.stdout()), late_output(&rt, at_once));
     let mut err = StreamOutput::new(rt.stderr());
     ExitCode::from(shown_program(
         alloc,

@@ -99,7 +99,8 @@ usages =
     ∷ argument (codes "width") form.WidthOption
     ∷ other (codes "certificate") form.FileOption command.Verdict ∷ [])
     ∷ usage (codes "justify") command.Justify
-    (profile ∷ source ∷ statement ∷ argument (codes "all") form.All ∷ [])
+    (profile ∷ source ∷ statement ∷ argument (codes "given") form.FileOption
+    ∷ argument (codes "all") form.All ∷ [])
     ∷ usage (codes "follow") command.Follow
     (profile ∷ source ∷ statement ∷ other (codes "fiq") form.FileOption command.FollowVisits ∷ machine ∷ [])
     ∷ usage (codes "graph") command.Graph

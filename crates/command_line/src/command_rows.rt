@@ -252,6 +252,13 @@ const WIDTH: ArgumentRow = ArgumentRow {
     instead: None,
 };
 
+const GIVEN: ArgumentRow = ArgumentRow {
+    id: "given",
+    form: Form::FileOption,
+    help: "Facts on registers at the handler's entry, which are taken for granted",
+    instead: None,
+};
+
 const ALL_FOLLOW: ArgumentRow = ArgumentRow {
     id: "all",
     form: Form::All,
@@ -466,7 +473,7 @@ pub(crate) const COMMANDS: [CommandRow; 14] = [
         name: "justify",
         command: Command::Justify,
         summary: "Print which entries of a statement follow from the handler's code",
-        arguments: &[PROFILE, SOURCE, STATEMENT, ALL_FOLLOW],
+        arguments: &[PROFILE, SOURCE, STATEMENT, GIVEN, ALL_FOLLOW],
     },
     CommandRow {
         name: "follow",

@@ -43,7 +43,7 @@ pub enum Command {
     /// The verdict on a certificate, the third file, and what fails in it.
     Verdict,
     /// Which entries of the statement follow from the handler's code; all are to where [`Request::all`] says
-    /// so.
+    /// so. The third file, if there is one, gives facts on registers at the handler's entry.
     Justify,
     /// Whether a machine's run through the handler, by the machine file, the third one, keeps the statement.
     Follow,

@@ -13,6 +13,8 @@ use Rattle.machine_file.specs.declared.profile_faults.ProfileFileFault.{ProfileF
 use Rattle.machine_file.specs.declared.profile_faults.ProfileFileFault.TheVariants as profile_fault
 use Rattle.control_flow.specs.declared.faults.BuildFault.{BuildFault}
 use Rattle.control_flow.specs.declared.faults.BuildFault.TheVariants as build_fault
+use Rattle.given_facts.specs.declared.faults.GivenFault.{GivenFault}
+use Rattle.given_facts.specs.declared.faults.GivenFault.TheVariants as given_fault
 use Rattle.statement.specs.declared.faults.StatementFault.{StatementFault}
 use Rattle.statement.specs.declared.faults.StatementFault.TheVariants as statement_fault
 use Rattle.loop_bounds.specs.declared.fault.NestFault.{NestFault}
@@ -96,6 +98,14 @@ profile_fault_name profile_fault.WrongKind = codes "WrongKind"
 profile_fault_name profile_fault.OutOfRange = codes "OutOfRange"
 profile_fault_name profile_fault.Disordered = codes "Disordered"
 
+abbrev pub given_fault_name : GivenFault → List ℕ
+given_fault_name given_fault.Memory = codes "Memory"
+given_fault_name given_fault.NotToml = codes "NotToml"
+given_fault_name given_fault.UnknownKey = codes "UnknownKey"
+given_fault_name given_fault.WrongKind = codes "WrongKind"
+given_fault_name given_fault.OutOfRange = codes "OutOfRange"
+given_fault_name given_fault.Twice = codes "Twice"
+
 abbrev pub fault_name : ReportFault → List ℕ
 fault_name report_fault.Memory = codes "Memory"
 fault_name (report_fault.Source fault) = source_fault_name fault
@@ -116,3 +126,4 @@ fault_name report_fault.NoSuchEntry = codes "NoSuchEntry"
 fault_name report_fault.NotVector = codes "NotVector"
 fault_name report_fault.NotReached = codes "NotReached"
 fault_name (report_fault.WordsMeet address) = codes "WordsMeet"
+fault_name (report_fault.Given fault) = given_fault_name fault

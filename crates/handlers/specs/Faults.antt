@@ -9,6 +9,8 @@ use Rattle.machine_file.specs.declared.profile_faults.ProfileFileFault.{ProfileF
 use Rattle.machine_file.specs.declared.profile_faults.ProfileFileFault.TheVariants as profile_fault
 use Rattle.control_flow.specs.declared.faults.BuildFault.{BuildFault}
 use Rattle.control_flow.specs.declared.faults.BuildFault.TheVariants as build_fault
+use Rattle.given_facts.specs.declared.faults.GivenFault.{GivenFault}
+use Rattle.given_facts.specs.declared.faults.GivenFault.TheVariants as given_fault
 use Rattle.sources.specs.declared.fault.SourceFault.{SourceFault}
 use Rattle.sources.specs.declared.fault.SourceFault.TheVariants as source_fault
 use Rattle.statement.specs.declared.faults.StatementFault.{StatementFault}
@@ -23,7 +25,7 @@ use Rattle.handlers.specs.declared.fault.ReportFault.{ReportFault}
 use Rattle.handlers.specs.declared.fault.ReportFault.TheVariants.{Memory, Source, Image}
 use Rattle.handlers.specs.declared.fault.ReportFault.TheVariants.{Statement, Graph}
 use Rattle.handlers.specs.declared.fault.ReportFault.TheVariants.{Loops, Walk, MachineFile, Load, Cert}
-use Rattle.handlers.specs.declared.fault.ReportFault.TheVariants.{Profile}
+use Rattle.handlers.specs.declared.fault.ReportFault.TheVariants.{Given, Profile}
 
 abbrev pub of_source : SourceFault → ReportFault
 of_source source_fault.Memory = Memory
@@ -65,3 +67,7 @@ of_load fault = Load fault
 abbrev pub of_profile : ProfileFileFault → ReportFault
 of_profile profile_fault.Memory = Memory
 of_profile fault = Profile fault
+
+abbrev pub of_given : GivenFault → ReportFault
+of_given given_fault.Memory = Memory
+of_given fault = Given fault

@@ -1,6 +1,7 @@
 use assembler::AsmFault;
 use certificate::CertFault;
 use control_flow::BuildFault;
+use given_facts::GivenFault;
 use image::ReadFault;
 use loader::LoadFault;
 use longest_walk::WalkFault;
@@ -72,4 +73,7 @@ pub enum ReportFault {
     /// least such.
     #[error("WordsMeet at {0:X}")]
     WordsMeet(u32),
+    /// The file of facts cannot be read.
+    #[error("{0}")]
+    Given(GivenFault),
 }

@@ -1,5 +1,6 @@
 ghost use Rattle.std.specs.Prelude.{◌≡◌};
-ghost use Rattle.handlers.specs.FaultNames.{cert_fault_name, fault_name, graph_fault_name};
+ghost use Rattle.handlers.specs.FaultNames.{cert_fault_name, fault_name, given_fault_name};
+ghost use Rattle.handlers.specs.FaultNames.{graph_fault_name};
 ghost use Rattle.handlers.specs.FaultNames.{image_fault_name, load_fault_name};
 ghost use Rattle.handlers.specs.FaultNames.{loops_fault_name, machine_file_fault_name};
 ghost use Rattle.handlers.specs.FaultNames.{profile_fault_name, source_fault_name};
@@ -9,6 +10,7 @@ use crate::fault::ReportFault;
 use assembler::AsmFault;
 use certificate::CertFault;
 use control_flow::BuildFault;
+use given_facts::GivenFault;
 use image::ReadFault;
 use loader::LoadFault;
 use longest_walk::WalkFault;
@@ -137,6 +139,19 @@ fn profile_fault_name(fault: ProfileFileFault) -> &'static [u8]
     }
 }
 
+fn given_fault_name(fault: GivenFault) -> &'static [u8]
+    ensures { result.now ≡ given_fault_name fault }
+{
+    match fault {
+        GivenFault::Memory => b"Memory",
+        GivenFault::NotToml => b"NotToml",
+        GivenFault::UnknownKey => b"UnknownKey",
+        GivenFault::WrongKind => b"WrongKind",
+        GivenFault::OutOfRange => b"OutOfRange",
+        GivenFault::Twice => b"Twice",
+    }
+}
+
 /// The name of a fault, as a refusal's line has it.
 pub fn fault_name(fault: ReportFault) -> &'static [u8]
     ensures { result.now ≡ fault_name fault }
@@ -161,5 +176,6 @@ pub fn fault_name(fault: ReportFault) -> &'static [u8]
         ReportFault::NotVector => b"NotVector",
         ReportFault::NotReached => b"NotReached",
         ReportFault::WordsMeet(_) => b"WordsMeet",
+        ReportFault::Given(fault) => given_fault_name(fault),
     }
 }

@@ -2,7 +2,7 @@
 
 ghost use Rattle.std.specs.Prelude.{◌≡◌};
 ghost use Rattle.handlers.specs.declared.fault.ReportFault.TheVariants.{Memory};
-ghost use Rattle.handlers.specs.Faults.{of_cert, of_graph, of_load, of_loops, of_machine_file};
+ghost use Rattle.handlers.specs.Faults.{of_cert, of_given, of_graph, of_load, of_loops, of_machine_file};
 ghost use Rattle.handlers.specs.Faults.{of_profile, of_source, of_statement, of_text, of_walk};
 
 use crate::fault::ReportFault;
@@ -12,6 +12,7 @@ use cert_check::CheckFault;
 use certificate::CertFault;
 use control_flow::BuildFault;
 use debugger::DebugFault;
+use given_facts::GivenFault;
 use loader::LoadFault;
 use longest_walk::WalkFault;
 use loop_bounds::NestFault;
@@ -143,6 +144,17 @@ impl From<ProfileFileFault> for ReportFault {
         match lower {
             ProfileFileFault::Memory => ReportFault::Memory,
             _ => ReportFault::Profile(lower),
+        }
+    }
+}
+
+impl From<GivenFault> for ReportFault {
+    ghost from_gives = { λ lower fault. fault ≡ of_given lower };
+
+    fn from(lower: GivenFault) -> ReportFault {
+        match lower {
+            GivenFault::Memory => ReportFault::Memory,
+            _ => ReportFault::Given(lower),
         }
     }
 }

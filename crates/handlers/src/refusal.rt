@@ -32,7 +32,8 @@ pub enum Stop<'a> {
 /// Why there is no report, with what the fault was found in.
 #[derive(Drop)]
 pub enum Refusal<'a> {
-    /// A fault of the source or of the cycle profile, a failure of the output, or lack of memory.
+    /// A fault of the source, of the cycle profile or of the file of facts, a failure of the output, or lack
+    /// of memory.
     Alone(ReportFault),
     /// The source was read, and the work on it has stopped.
     OnSource(Source<'a>, Stop<'a>),

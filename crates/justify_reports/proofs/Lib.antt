@@ -1,4 +1,5 @@
 mod ClassedLemmas
+mod ReturnLemmas
 mod RowLemmas
 mod SetLemmas
 mod TextLemmas

@@ -11,25 +11,33 @@ use Rattle.sources.specs.Lines.{AreLines}
 use Rattle.sources.specs.declared.read.Source.{Source}
 use Rattle.text_rows.specs.WordLines.{Numbered, numbered_at}
 use Rattle.text_rows.specs.declared.line_labels.SourceLine.{SourceLine}
+use Rattle.loop_bounds.specs.Tree.{Tree}
 use Rattle.known_places.specs.OnTrust.{OnTrust}
+use Rattle.known_places.specs.declared.destination.Destination.{Destination}
 use Rattle.known_words.specs.declared.given.Given.{Given}
 use Rattle.justify_reports.specs.JustifyReport.{IsJustifyText}
-use Rattle.justify_reports.specs.Rows.{AreClassRows, AreClassed, AreLoopRows, AreStatedRows}
+use Rattle.justify_reports.specs.Rows.{AreClassRows, AreClassed, AreLoopRows, AreReturnRows, AreStatedRows}
 use Rattle.justify_reports.specs.RowTexts.{AreRowTexts, IsEnd, IsRowText, front_text}
 use Rattle.justify_reports.specs.Summary.{AreFactRows, summary_text}
 use Rattle.justify_reports.specs.declared.rows.Row.{Row}
 
-pub all_rows : (words : Words) (st : Stated) (flow : Flow) (left : Option OnTrust) (named shown : List ℕ) (loops : List Loop) (none classes rows : List Row)
-    → AreClassed words st flow left named → shown ≡ named → loops ≡ st.loops.list → none ≡ [] → Appends (AreClassRows words st left shown) none classes → Appends (AreLoopRows left loops) classes rows
-    → AreStatedRows words st flow left rows
-all_rows words st flow left named shown loops none classes rows are same list empty first then = record {
+pub all_rows : (words : Words) (st : Stated) (flow : Flow) (tree : Tree) (left : Option OnTrust) (destinations : List Destination) (named shown : List ℕ) (loops : List Loop)
+    (none classes returns rows : List Row) → AreClassed words st flow left named → shown ≡ named → loops ≡ st.loops.list → none ≡ []
+    → Appends (AreClassRows words st left shown) none classes → Appends (AreReturnRows words st flow tree destinations) classes returns
+    → Appends (AreLoopRows left loops) returns rows → AreStatedRows words st flow tree left destinations rows
+all_rows words st flow tree left destinations named shown loops none classes returns rows are same list empty first then last = record {
   named = named;
   classes = first.0;
-  loops = then.0;
+  returns = then.0;
+  loops = last.0;
   are_classed = are;
   are_classes = subst (λ (ns : List ℕ). AreClassRows words st left ns first.0) same first.1;
-  are_loops = subst (λ (ls : List Loop). AreLoopRows left ls then.0) list then.1;
-  rows_are = then.2 ∙ ap (λ (xs : List Row). xs ++ then.0) (first.2 ∙ ap (λ (xs : List Row). xs ++ first.0) empty);
+  are_returns = then.1;
+  are_loops = subst (λ (ls : List Loop). AreLoopRows left ls last.0) list last.1;
+  rows_are =
+      last.2
+      ∙ ap (λ (xs : List Row). xs ++ last.0) (then.2 ∙ ap (λ (xs : List Row). xs ++ then.0) (first.2 ∙ ap (λ (xs : List Row). xs ++ first.0) empty))
+      ∙ append_assoc first.0 then.0 last.0;
 }
 
 pub row_put : (read : Source) (words : Words) (row : Row) (lines : BTreeMap ℕ SourceLine) (front old a new : List ℕ) (used : ℕ) → AreLines read lines → front ≡ front_text row

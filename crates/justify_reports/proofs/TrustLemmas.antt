@@ -21,7 +21,9 @@ use Rattle.numbered_walks.specs.declared.fault.WalkFault.TheVariants as walk_fau
 use Rattle.known_words.specs.Given.{AreGiven}
 use Rattle.known_words.specs.Knowledge.{AreWords}
 use Rattle.known_words.specs.declared.given.Given.{Given}
+use Rattle.known_places.specs.Destinations.{AreDestinations}
 use Rattle.known_places.specs.OnTrust.{GoesOnTrust, Justifies, OnTrust}
+use Rattle.known_places.specs.declared.destination.Destination.{Destination}
 use Rattle.handlers.specs.Keeping.{BoundsRuns, KeepsStatement}
 use Rattle.handlers.specs.Report.{HasLoops}
 use Rattle.handlers.proofs.HandlerLemmas.{same_words}
@@ -100,21 +102,23 @@ module _ (source statement : List ℕ) (profile : Profile) (read : Source) (is_r
       subst (λ (p : Profile). IsFlowGraph read.image st p flow) (sym loops.graph.graph_is.profile_is)
       (subst (λ (w : Words). IsFlowGraph w st profile flow) own_words loops.graph.graph_is)
 
-  pub justified : (of : IsTreeOf flow st.loops tree) → RunLaw → (given : List Given) (all enough : Bool) (left : Option OnTrust) (rows : List Row) (l : Longest) (text : List ℕ)
+  pub justified : (of : IsTreeOf flow st.loops tree) → RunLaw → (given : List Given) (all enough : Bool) (left : Option OnTrust) (goes : List Destination) (rows : List Row) (l : Longest) (text : List ℕ)
       → IsLongest flow tree l → ((f : WalkFault) → f ≢ walk_fault.Memory → IsWalkFault flow tree f → ⊥) → IfSome left (Justifies read.image st flow given)
-      → AreStatedRows read.image st flow left rows → IsJustifyText read given left rows l.bound profile.burst text → enough ≡ is_enough all rows
+      → AreDestinations read.image st flow tree given goes → AreStatedRows read.image st flow tree left goes rows → IsJustifyText read given left rows l.bound profile.burst text → enough ≡ is_enough all rows
       → IsJustifyReport source statement given all profile enough text
   unfolding accepted bounded
-  justified of law given all enough left rows l text is allowed follows are is_text answer = record {
+  justified of law given all enough left goes rows l text is allowed follows go are is_text answer = record {
     bounded = bounded source statement profile st flow tree loops of l is allowed;
     read = read;
     left = left;
+    destinations = goes;
     rows = rows;
     is_read = is_read;
     justified =
         is_justified loops.graph.words st profile flow given left l.bound loops.graph.graph_is.profile_is
         (subst (λ (w : Words). IfSome left (Justifies w st flow given)) (sym own_words) follows)
         (bounds_runs loops.graph.words profile st flow l.bound law (tree_is_greatest flow st.loops tree of.instances l.bound is.greatest));
+    goes = subst (λ (w : Words). AreDestinations w st flow tree given goes) (sym own_words) go;
     are_rows = are;
     text_is = is_text;
     answer_is = answer;

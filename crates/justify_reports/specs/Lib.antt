@@ -1,5 +1,6 @@
 pub mod Trust
 pub mod TrustSets
+pub mod Returns
 pub mod Rows
 pub mod RowTexts
 pub mod Summary

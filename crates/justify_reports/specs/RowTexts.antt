@@ -1,6 +1,7 @@
 -- The rows as they are printed.
-use Rattle.std.specs.Prelude.{◌≡◌, ℕ, Bool, true, false, List, ◌++◌, codes, decimal, length, Option, Some}
-use Rattle.std.specs.Prelude.{None}
+use Rattle.std.specs.Prelude.{◌≡◌, ◌==◌, ℕ, if◌then◌else◌, List, [], ◌++◌, codes, decimal, length, Option}
+use Rattle.std.specs.Prelude.{Some, None}
+use Rattle.asm_text.specs.Hex.{hex8}
 use Rattle.image.specs.Image.{Words, word_of}
 use Rattle.sources.specs.Lines.{line_of}
 use Rattle.sources.specs.declared.read.Source.{Source}
@@ -8,29 +9,48 @@ use Rattle.statement.specs.Statement.{class_name}
 use Rattle.text_rows.specs.Columns.{in_columns}
 use Rattle.text_rows.specs.Rows.{AreRows, IsShownRow, address_row, named_row}
 use Rattle.text_rows.specs.WordLines.{Numbered}
+use Rattle.justify_reports.specs.declared.returns.Going.{Going}
+use Rattle.justify_reports.specs.declared.returns.Going.TheVariants.{AfterCall, Back, BackInside, Elsewhere, Out, Unseen}
 use Rattle.justify_reports.specs.declared.rows.Entry.{Entry}
-use Rattle.justify_reports.specs.declared.rows.Entry.TheVariants.{Access, Base, Loop}
+use Rattle.justify_reports.specs.declared.rows.Entry.TheVariants.{Access, Base, Loop, Return}
 use Rattle.justify_reports.specs.declared.rows.Row.{Row}
+use Rattle.justify_reports.specs.declared.rows.Verdict.{Verdict}
+use Rattle.justify_reports.specs.declared.rows.Verdict.TheVariants.{False, Follows, OnTrust}
 
 -- the kind of an entry
 abbrev pub kind_text : Entry → List ℕ
 kind_text (Access class) = codes "  access"
 kind_text (Base class) = codes "  base  "
+kind_text (Return going) = codes "  return"
 kind_text (Loop bound) = codes "  loop  "
 
--- what is stated: a class, or the most back edges of a stay
+-- the address in R14 at the entry, less so many bytes
+abbrev pub link_text : (bytes : ℕ) → List ℕ
+link_text bytes = codes "R14 at entry" ++ (if bytes == 0 then [] else codes " - " ++ decimal bytes)
+
+abbrev pub going_text : Going → List ℕ
+going_text (Back bytes) = link_text bytes
+going_text (BackInside bytes) = link_text bytes
+going_text AfterCall = codes "after its call"
+going_text (Out a) = codes "to " ++ hex8 a
+going_text Unseen = codes "unknown"
+going_text (Elsewhere a) = codes "to " ++ hex8 a
+
+-- what is stated, a class or the most back edges of a stay; or where a return goes
 abbrev pub stated_text : Entry → List ℕ
 stated_text (Access class) = class_name class
 stated_text (Base class) = class_name class
+stated_text (Return going) = going_text going
 stated_text (Loop bound) = codes "at most " ++ decimal bound
 
-abbrev pub trust_text : Bool → List ℕ
-trust_text true = codes "  ON TRUST"
-trust_text false = codes "  follows "
+abbrev pub verdict_text : Verdict → List ℕ
+verdict_text Follows = codes "  follows "
+verdict_text OnTrust = codes "  ON TRUST"
+verdict_text False = codes "  FALSE   "
 
 -- the columns of a row before its word
 abbrev pub front_text : Row → List ℕ
-front_text row = kind_text row.entry ++ (in_columns 15 (stated_text row.entry) ++ trust_text row.on_trust)
+front_text row = kind_text row.entry ++ (in_columns 17 (stated_text row.entry) ++ verdict_text row.verdict)
 
 -- the word at the address, and its line; or the address alone, where no word is
 abbrev pub IsWordEnd : (used at : ℕ) → Option ℕ → List ℕ → Type 0

@@ -1,6 +1,6 @@
 -- The entries of a statement that may follow from the code, a row for each.
-use Rattle.std.specs.Prelude.{◌≡◌, ◌≢◌, ◌↔◌, ◌⊎◌, ℕ, Bool, true, if◌then◌else◌, List, [], ◌∷◌, ◌++◌, Contains}
-use Rattle.std.specs.Prelude.{Option, is_some, nat_eq}
+use Rattle.std.specs.Prelude.{◌≡◌, ◌≢◌, ◌↔◌, ◌⊎◌, ℕ, Bool, true, false, if◌then◌else◌, List, [], ◌∷◌, ◌++◌}
+use Rattle.std.specs.Prelude.{Contains, Option, is_some, nat_eq, unwrap_or}
 use Rattle.std.specs.List.Sorted.{IsStrictlySortedBy}
 use Rattle.std.specs.Map.{lookup}
 use Rattle.std.specs.Ordering.{nat_cmp}
@@ -17,11 +17,18 @@ use Rattle.text_explained.specs.Doing.{may_do_shape}
 use Rattle.text_explained.specs.Taken.{is_reached}
 use Rattle.text_rows.specs.Rows.{AreRows}
 use Rattle.word_shapes.specs.Words.{HasInstr}
+use Rattle.loop_bounds.specs.Tree.{Tree}
 use Rattle.known_places.specs.OnTrust.{OnTrust}
+use Rattle.known_places.specs.declared.destination.Destination.{Destination}
+use Rattle.justify_reports.specs.Returns.{AreReturns, IsGoing}
 use Rattle.justify_reports.specs.Trust.{lists_class, trusts_class, trusts_loop}
 use Rattle.justify_reports.specs.declared.rows.Entry.{Entry}
 use Rattle.justify_reports.specs.declared.rows.Entry.TheVariants as entry
+use Rattle.justify_reports.specs.declared.returns.Going.{Going}
+use Rattle.justify_reports.specs.declared.returns.Going.TheVariants.{AfterCall, Back, BackInside, Elsewhere, Out, Unseen}
 use Rattle.justify_reports.specs.declared.rows.Row.{Row}
+use Rattle.justify_reports.specs.declared.rows.Verdict.{Verdict}
+use Rattle.justify_reports.specs.declared.rows.Verdict.TheVariants as verdict
 
 -- ## Which words have a row
 
@@ -51,31 +58,69 @@ IsClassAt words st a class = (i : Instr) → HasInstr words a i → class ≡ cl
 abbrev pub entry_of : Stated → ℕ → Class → Entry
 entry_of st a class = if is_some (lookup (nat_eq a) st.accesses) then entry.Access class else entry.Base class
 
+abbrev pub by_trust : Bool → Verdict
+by_trust true = verdict.OnTrust
+by_trust false = verdict.Follows
+
 -- the row of a word's class
 pub record IsClassRow (words : Words) (st : Stated) (left : Option OnTrust) (a : ℕ) (row : Row) : Type 0 where
   pub class : Class
   pub class_is : IsClassAt words st a class
   pub row_is : row
-      ≡ record { entry = entry_of st a class; at = a; on_trust = trusts_class left a }
+      ≡ record { entry = entry_of st a class; at = a; verdict = by_trust (trusts_class left a) }
 
 abbrev pub loop_row : Option OnTrust → Loop → Row
-loop_row left l = record { entry = entry.Loop l.bound; at = l.header; on_trust = trusts_loop left l.header }
+loop_row left l =
+    record { entry = entry.Loop l.bound; at = l.header; verdict = by_trust (trusts_loop left l.header) }
+
+abbrev pub verdict_of : Going → Verdict
+verdict_of (Back bytes) = verdict.Follows
+verdict_of AfterCall = verdict.Follows
+verdict_of (Out a) = verdict.Follows
+verdict_of (BackInside bytes) = verdict.OnTrust
+verdict_of Unseen = verdict.OnTrust
+verdict_of (Elsewhere a) = verdict.False
+
+abbrev pub return_row : Going → (a : ℕ) → Row
+return_row going a = record { entry = entry.Return going; at = a; verdict = verdict_of going }
+
+-- the row of a word that returns or leaves
+pub record IsReturnRow (words : Words) (st : Stated) (flow : Flow) (tree : Tree)
+    (destinations : List Destination) (a : ℕ) (row : Row) : Type 0 where
+  pub going : Going
+  pub is_going : IsGoing words st flow tree destinations a going
+  pub row_is : row ≡ return_row going a
 
 -- one row for each address, and for each loop
 abbrev pub AreClassRows : Words → Stated → Option OnTrust → List ℕ → List Row → Type 0
 AreClassRows words st left =
     AreRows (λ a part. (row : Row) × IsClassRow words st left a row × (part ≡ row ∷ []))
 
+pub record AreReturnRows (words : Words) (st : Stated) (flow : Flow) (tree : Tree)
+    (destinations : List Destination) (rows : List Row) : Type 0 where
+  pub named : List ℕ
+  pub are_returns : AreReturns words st flow named
+  pub are_rows : AreRows
+      (λ a part. (row : Row) × IsReturnRow words st flow tree destinations a row × (part ≡ row ∷ []))
+      named rows
+
+-- by what was found
+abbrev pub AreFoundRows : (ℕ → Option Going) → List ℕ → List Row → Type 0
+AreFoundRows found = AreRows (λ a part. part ≡ return_row (unwrap_or (found a) Unseen) a ∷ [])
+
 abbrev pub AreLoopRows : Option OnTrust → List Loop → List Row → Type 0
 AreLoopRows left = AreRows (λ l part. part ≡ loop_row left l ∷ [])
 
--- the rows of those words, by their addresses, and then of all stated loops, in the statement's order
-pub record AreStatedRows (words : Words) (st : Stated) (flow : Flow) (left : Option OnTrust)
-    (rows : List Row) : Type 0 where
+-- the rows of the words with a class, then of those that return or leave, both by their addresses, and then
+-- of all stated loops, in the statement's order
+pub record AreStatedRows (words : Words) (st : Stated) (flow : Flow) (tree : Tree) (left : Option OnTrust)
+    (destinations : List Destination) (rows : List Row) : Type 0 where
   pub named : List ℕ
   pub classes : List Row
+  pub returns : List Row
   pub loops : List Row
   pub are_classed : AreClassed words st flow left named
   pub are_classes : AreClassRows words st left named classes
+  pub are_returns : AreReturnRows words st flow tree destinations returns
   pub are_loops : AreLoopRows left st.loops.list loops
-  pub rows_are : rows ≡ classes ++ loops
+  pub rows_are : rows ≡ classes ++ (returns ++ loops)

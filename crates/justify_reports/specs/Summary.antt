@@ -1,12 +1,14 @@
 -- What is printed around the rows: the facts, how many entries follow, and what that says of runs.
-use Rattle.std.specs.Prelude.{◌≡◌, ◌==◌, ℕ, not, if◌then◌else◌, List, [], ◌∷◌, ◌++◌, codes, count_by, decimal}
-use Rattle.std.specs.Prelude.{length, Option, Some, None}
+use Rattle.std.specs.Prelude.{◌≡◌, ◌==◌, ℕ, Bool, true, false, if◌then◌else◌, List, [], ◌∷◌, ◌++◌, codes}
+use Rattle.std.specs.Prelude.{count_by, decimal, length, Option, Some, None}
 use Rattle.asm_text.specs.Hex.{hex8}
 use Rattle.known_places.specs.OnTrust.{OnTrust}
 use Rattle.known_words.specs.declared.given.Given.{Given}
 use Rattle.text_explained.specs.Rules.{register_text}
 use Rattle.text_rows.specs.Rows.{AreRows}
 use Rattle.justify_reports.specs.declared.rows.Row.{Row}
+use Rattle.justify_reports.specs.declared.rows.Verdict.{Verdict}
+use Rattle.justify_reports.specs.declared.rows.Verdict.TheVariants as verdict
 
 -- ## Facts
 
@@ -24,8 +26,21 @@ AreFactRows = AreRows (λ g row. row ≡ fact_row g)
 
 -- ## Counts
 
+abbrev pub is_following : Verdict → Bool
+is_following verdict.Follows = true
+is_following verdict.OnTrust = false
+is_following verdict.False = false
+
+abbrev pub is_false : Verdict → Bool
+is_false verdict.Follows = false
+is_false verdict.OnTrust = false
+is_false verdict.False = true
+
 abbrev pub follows_count : List Row → ℕ
-follows_count rows = count_by (λ row. not row.on_trust) rows
+follows_count rows = count_by (λ row. is_following row.verdict) rows
+
+abbrev pub false_count : List Row → ℕ
+false_count rows = count_by (λ row. is_false row.verdict) rows
 
 -- where the table of what is known does not hold along the handler
 abbrev pub unseen_text : Option OnTrust → List ℕ
@@ -35,20 +50,25 @@ unseen_text (Some trusted) = []
 -- what is on trust of every handler: the rest of what it is to keep a statement
 abbrev pub others_text : List ℕ
 others_text =
-    codes "On trust too: code unchanged, no exception or stop, the class of leave, returns,\n"
-    ++ codes "other stated targets, ways of branches, cycles of multiplies.\n"
+    codes "On trust too: code unchanged, no exception or stop, the class of leave, where\n"
+    ++ codes "returns, stated jumps and calls go, ways of branches, cycles of multiplies.\n"
 
 abbrev pub facts_text : List Given → List ℕ
 facts_text [] = codes "without facts at the entry"
 facts_text (g ∷ given) =
     codes "given " ++ (decimal (length (g ∷ given)) ++ codes " of the registers at the entry")
 
+-- where some go elsewhere
+abbrev pub false_text : ℕ → List ℕ
+false_text count = if count == 0 then [] else decimal count ++ codes " FALSE, "
+
 -- how many entries follow
 abbrev pub counts_text : List Row → List Given → List ℕ
 counts_text rows given =
     decimal (follows_count rows)
     ++ (codes " of "
-    ++ (decimal (length rows) ++ (codes " entries follow, " ++ (facts_text given ++ codes ".\n"))))
+    ++ (decimal (length rows) ++ (codes " entries follow, "
+    ++ (false_text (false_count rows) ++ (facts_text given ++ codes ".\n")))))
 
 -- ## The theorem
 

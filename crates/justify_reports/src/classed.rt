@@ -65,7 +65,7 @@ fn has_class(image: &Image, statement: &Statement, at: u32) -> bool
     }
 }
 
-fn add(named: &mut BTreeSet<u32>, at: u32) -> Result<(), AllocError>
+pub(crate) fn add(named: &mut BTreeSet<u32>, at: u32) -> Result<(), AllocError>
     ensures { OnOk result
         ((a : ℕ) → (contains nat_cmp named.new a ≡ true)
         ↔ ((contains nat_cmp named.old a ≡ true) ⊎ (at ≡ a))) }
@@ -114,7 +114,8 @@ fn add_trusted(named: &mut BTreeSet<u32>, left: &Option<OnTrust>) -> Result<(), 
     }
 }
 
-fn sorted(alloc: Global, named: &BTreeSet<u32>) -> Result<Vec<u32>, AllocError>
+/// The addresses of the set, ascending. `AllocError`: an allocation failed.
+pub(crate) fn sorted(alloc: Global, named: &BTreeSet<u32>) -> Result<Vec<u32>, AllocError>
     ensures keys { IfOk result (λ addresses. addresses.items ≡ named.now.keys) }
     ensures ascending { IfOk result (λ addresses. IsStrictlySortedBy nat_cmp addresses.items) }
 {

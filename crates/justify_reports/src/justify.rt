@@ -3,6 +3,7 @@
 ghost use Rattle.std.specs.Prelude.{◌≡◌, ◌∷◌, [], ◌==◌, ◌||◌, ℕ, List, IfErr, IfOk, IfSome, not};
 ghost use Rattle.control_flow.specs.Graph.{IsFlowGraph};
 ghost use Rattle.loop_bounds.specs.Handler.{HasItsTree};
+ghost use Rattle.known_places.specs.Destinations.{AreDestinations};
 ghost use Rattle.known_places.specs.OnTrust.{Justifies};
 ghost use Rattle.handlers.specs.Priced.{Priced, given};
 ghost use Rattle.handlers.specs.Refusal.{Carries, CarriesRead, CarriesReadBy, ComesAlone, fault_only};
@@ -14,7 +15,7 @@ ghost use Rattle.justify_reports.specs.JustifyReport.{is_enough};
 
 use crate::row_texts::put_row_texts;
 use crate::rows::{Row, stated_rows};
-use crate::summary::{Summary, follows_count, put_facts, put_summary};
+use crate::summary::{Summary, false_count, follows_count, put_facts, put_summary};
 use bus_ticks::Profile;
 use control_flow::graphs_are_well_formed;
 use flow_graph::run_law;
@@ -22,21 +23,21 @@ use handlers::{
     Handler, Refusal, ReportFault, Stop, longest_of, print_or_refuse, profile_of, read_handler,
     read_source, with_source,
 };
-use known_places::{OnTrust, left_on_trust, proposed};
-use known_words::Given;
+use known_places::{Destination, OnTrust, destinations, left_on_trust, proposed};
+use known_words::{Given, Knowledge};
 use outputs::Output;
 use sources::Source;
 use std::alloc::{AllocError, Global};
 
 /// A handler of whose statement it is asked what follows from the code.
 #[derive(Clone, Copy)]
-pub struct JustifiedHandler<'a> {
+pub struct JustifiedHandler<'a, 'g> {
     /// The bytes of its source, a text or an image.
     pub source: &'a [u8],
     /// The text of the statement on it.
     pub statement: &'a [u8],
     /// What is given of the registers at its entry.
-    pub given: &'a [Given],
+    pub given: &'g [Given],
     /// Whether all entries are to follow.
     pub all: bool,
 }
@@ -51,23 +52,47 @@ struct Justified {
 fn is_enough(all: bool, rows: &[Row]) -> bool
     ensures { result ≡ is_enough all rows.now }
 {
-    !all || follows_count(rows) == rows.len()
+    false_count(rows) == 0 && (!all || follows_count(rows) == rows.len())
 }
 
-// What is left on trust; `None` where nothing is seen to follow.
-fn left_of(
+// What is left on trust, `None` where nothing is seen to follow; and where the word of each place goes.
+#[derive(Drop)]
+struct Seen {
+    left: Option<OnTrust>,
+    destinations: Vec<Destination>,
+}
+
+fn destinations_of(
     alloc: Global,
     handler: &Handler<'_>,
     given: &[Given],
-) -> Result<Option<OnTrust>, AllocError>
+    table: &[Knowledge],
+) -> Result<Vec<Destination>, AllocError>
     requires graph { IsFlowGraph handler.now.image.now handler.now.statement handler.now.graph.profile
         handler.now.graph }
     requires tree { HasItsTree handler.now }
-    ensures { IfOk result (λ left. IfSome left
+    ensures { IfOk result (λ found. AreDestinations handler.now.image.now handler.now.statement
+        handler.now.graph handler.now.tree given.now found.items) }
+{
+    match destinations(alloc, handler, given, table)? {
+        Some(found) => Ok(found),
+        None => Ok(Vec::new(alloc)),
+    }
+}
+
+fn seen_of(alloc: Global, handler: &Handler<'_>, given: &[Given]) -> Result<Seen, AllocError>
+    requires graph { IsFlowGraph handler.now.image.now handler.now.statement handler.now.graph.profile
+        handler.now.graph }
+    requires tree { HasItsTree handler.now }
+    ensures left { IfOk result (λ seen. IfSome seen.left
         (Justifies handler.now.image.now handler.now.statement handler.now.graph given.now)) }
+    ensures goes { IfOk result (λ seen. AreDestinations handler.now.image.now handler.now.statement
+        handler.now.graph handler.now.tree given.now seen.destinations.items) }
 {
     let table = proposed(alloc, handler, given)?;
-    left_on_trust(alloc, handler, given, &table)
+    let left = left_on_trust(alloc, handler, given, &table)?;
+    let destinations = destinations_of(alloc, handler, given, &table)?;
+    Ok(Seen { left, destinations })
 }
 
 fn text_of(alloc: Global, read: &Source<'_>, summary: Summary<'_>) -> Result<Vec<u8>, AllocError>
@@ -85,7 +110,7 @@ fn text_of(alloc: Global, read: &Source<'_>, summary: Summary<'_>) -> Result<Vec
 // The report on a handler that was read.
 fn handler_justified(
     alloc: Global,
-    justified: JustifiedHandler<'_>,
+    justified: JustifiedHandler<'_, '_>,
     said: &Source<'_>,
     handler: &Handler<'_>,
     profile: &Profile,
@@ -103,12 +128,12 @@ fn handler_justified(
     ensures alone { IfErr result ComesAlone }
 {
     let found = longest_of(alloc, handler)?;
-    let left = left_of(alloc, handler, justified.given)?;
-    let rows = stated_rows(alloc, handler, &left)?;
+    let seen = seen_of(alloc, handler, justified.given)?;
+    let rows = stated_rows(alloc, handler, &seen.left, &seen.destinations)?;
     graphs_are_well_formed(&handler.graph);
     run_law();
     let summary = Summary {
-        left: &left,
+        left: &seen.left,
         rows: &rows,
         given: justified.given,
         bound: found.bound,
@@ -124,7 +149,7 @@ fn handler_justified(
 // The report on the handler of a source that was read.
 fn source_justified<'a>(
     alloc: Global,
-    justified: JustifiedHandler<'a>,
+    justified: JustifiedHandler<'a, '_>,
     said: &Source<'_>,
     profile: &Profile,
 ) -> Result<Justified, Stop<'a>>
@@ -143,7 +168,7 @@ fn source_justified<'a>(
 // The report on a source's handler.
 fn read_justified<'a>(
     alloc: Global,
-    justified: JustifiedHandler<'a>,
+    justified: JustifiedHandler<'a, '_>,
     profile: &Profile,
 ) -> Result<Justified, Refusal<'a>>
     ensures shows { IfOk result
@@ -161,18 +186,18 @@ fn read_justified<'a>(
 
 /// Writes which entries of a statement follow from its handler's code, by a cycle profile's file or by the
 /// first profile: the facts that are given of the registers at the entry; a row for each load or store that
-/// has a stated class, by its address, and for each stated loop, in the statement's order, with what is
-/// stated, `follows` or `ON TRUST`, and the line in the source; then how many follow; then the bound, in
-/// ticks, of each run that begins as given and keeps what is on trust. Each entry that follows is proved to
-/// hold in each such run, whether it ends or not. Answers no where all are to follow and one does not, and
-/// else yes.
+/// has a stated class, by its address, for each word that returns or leaves, by its address, and for each
+/// stated loop, in the statement's order, with what is stated or where the word goes, `follows`, `ON TRUST`
+/// or `FALSE`, and the line in the source; then how many follow; then the bound, in ticks, of each run that
+/// begins as given and keeps what is on trust. Each entry that follows is proved to hold in each such run,
+/// whether it ends or not. Answers no where one is false, or all are to follow and one does not, and else yes.
 ///
 /// # Errors
 ///
 /// Those of `bound_report`. After any but `Device` nothing was written.
 pub fn justify_report<'a, O: Output>(
     alloc: Global,
-    justified: JustifiedHandler<'a>,
+    justified: JustifiedHandler<'a, '_>,
     profile: Option<&'a [u8]>,
     out: &mut O,
 ) -> Result<bool, Refusal<'a>>

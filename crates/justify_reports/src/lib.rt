@@ -5,6 +5,7 @@
 mod classed;
 mod justify;
 mod law;
+mod returns;
 mod row_texts;
 mod rows;
 mod summary;

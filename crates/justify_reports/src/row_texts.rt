@@ -1,14 +1,18 @@
 //! The rows as they are printed.
 
-ghost use Rattle.std.specs.Prelude.{◌≡◌, ◌++◌, IfOk, OnOk, length};
+ghost use Rattle.std.specs.Prelude.{◌≡◌, ◌++◌, IfOk, OnOk, codes, decimal, length};
+ghost use Rattle.asm_text.specs.Hex.{hex8};
 ghost use Rattle.text_rows.specs.Rows.{named_row};
 ghost use Rattle.asm_text.specs.Appended.{Appends};
 ghost use Rattle.sources.specs.Lines.{AreLines};
 ghost use Rattle.text_rows.specs.WordLines.{numbered_at};
 ghost use Rattle.justify_reports.specs.RowTexts.{AreRowTexts, IsEnd, IsRowText, IsWordEnd, front_text};
-ghost use Rattle.justify_reports.specs.RowTexts.{kind_text, stated_text, trust_text};
+ghost use Rattle.justify_reports.specs.RowTexts.{going_text, kind_text, link_text, stated_text};
+ghost use Rattle.justify_reports.specs.RowTexts.{verdict_text};
 
-use crate::rows::{Entry, Row};
+use crate::returns::Going;
+use crate::rows::{Entry, Row, Verdict};
+use asm_text::hex8;
 use image::Image;
 use sources::Source;
 use statement::class_name;
@@ -32,6 +36,7 @@ fn kind_text(entry: Entry) -> &'static [u8]
     match entry {
         Entry::Access(_) => b"  access",
         Entry::Base(_) => b"  base  ",
+        Entry::Return(_) => b"  return",
         Entry::Loop(_) => b"  loop  ",
     }
 }
@@ -43,24 +48,63 @@ fn put_most(out: &mut Vec<u8>, bound: u32) -> Result<(), AllocError>
     put_decimal(out, u64::from(bound))
 }
 
-// Adds what an entry states.
+fn put_less(out: &mut Vec<u8>, bytes: u32) -> Result<(), AllocError>
+    ensures { OnOk result (out.new.items ≡ out.old.items ++ (codes " - " ++ decimal bytes)) }
+{
+    put(out, b" - ")?;
+    put_decimal(out, u64::from(bytes))
+}
+
+fn put_link(out: &mut Vec<u8>, bytes: u32) -> Result<(), AllocError>
+    ensures { OnOk result (out.new.items ≡ out.old.items ++ link_text bytes) }
+{
+    put(out, b"R14 at entry")?;
+    if bytes == 0 {
+        return Ok(());
+    }
+    put_less(out, bytes)
+}
+
+fn put_to(out: &mut Vec<u8>, address: u32) -> Result<(), AllocError>
+    ensures { OnOk result (out.new.items ≡ out.old.items ++ (codes "to " ++ hex8 address)) }
+{
+    put(out, b"to ")?;
+    put(out, &hex8(address))
+}
+
+// Adds where a return goes.
+fn put_going(out: &mut Vec<u8>, going: Going) -> Result<(), AllocError>
+    ensures { OnOk result (out.new.items ≡ out.old.items ++ going_text going) }
+{
+    match going {
+        Going::Back(bytes) => put_link(out, bytes),
+        Going::AfterCall => put(out, b"after its call"),
+        Going::Out(address) => put_to(out, address),
+        Going::BackInside(bytes) => put_link(out, bytes),
+        Going::Unseen => put(out, b"unknown"),
+        Going::Elsewhere(address) => put_to(out, address),
+    }
+}
+
+// Adds what an entry states, or where a return goes.
 fn put_stated(out: &mut Vec<u8>, entry: Entry) -> Result<(), AllocError>
     ensures { OnOk result (out.new.items ≡ out.old.items ++ stated_text entry) }
 {
     match entry {
         Entry::Access(class) => put(out, class_name(class).as_bytes()),
         Entry::Base(class) => put(out, class_name(class).as_bytes()),
+        Entry::Return(going) => put_going(out, going),
         Entry::Loop(bound) => put_most(out, bound),
     }
 }
 
-fn trust_text(on_trust: bool) -> &'static [u8]
-    ensures { result.now ≡ trust_text on_trust }
+fn verdict_text(verdict: Verdict) -> &'static [u8]
+    ensures { result.now ≡ verdict_text verdict }
 {
-    if on_trust {
-        b"  ON TRUST"
-    } else {
-        b"  follows "
+    match verdict {
+        Verdict::Follows => b"  follows ",
+        Verdict::OnTrust => b"  ON TRUST",
+        Verdict::False => b"  FALSE   ",
     }
 }
 
@@ -72,8 +116,8 @@ fn front_of(alloc: Global, row: Row) -> Result<Vec<u8>, AllocError>
     put_stated(&mut stated, row.entry)?;
     let mut front = Vec::new(alloc);
     put(&mut front, kind_text(row.entry))?;
-    put_right(&mut front, &stated, 15)?;
-    put(&mut front, trust_text(row.on_trust))?;
+    put_right(&mut front, &stated, 17)?;
+    put(&mut front, verdict_text(row.verdict))?;
     Ok(front)
 }
 

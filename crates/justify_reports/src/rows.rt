@@ -1,21 +1,27 @@
 //! A row for each entry of a statement that may follow from the code.
 
-ghost use Rattle.std.specs.Prelude.{◌≡◌, ◌∷◌, [], IfOk, OnOk, is_some, nat_eq};
+ghost use Rattle.std.specs.Prelude.{◌≡◌, ◌∷◌, [], IfOk, OnOk, is_some, nat_eq, unwrap_or};
+ghost use Rattle.std.specs.BTreeMap.{get};
 ghost use Rattle.std.specs.Map.{lookup};
+ghost use Rattle.std.specs.Ordering.{nat_cmp};
 ghost use Rattle.asm_text.specs.Appended.{Appends};
+ghost use Rattle.loop_bounds.specs.Handler.{HasItsTree};
 ghost use Rattle.justify_reports.specs.Rows.{AreClassRows, AreLoopRows, AreStatedRows, IsClassAt, IsClassRow};
-ghost use Rattle.justify_reports.specs.Rows.{entry_of, loop_row};
+ghost use Rattle.justify_reports.specs.Rows.{AreFoundRows, AreReturnRows, by_trust, entry_of, loop_row};
+ghost use Rattle.justify_reports.specs.Rows.{return_row, verdict_of};
 ghost use Rattle.justify_reports.specs.TrustSets.{AreSetsOf};
 
 use crate::classed::classed;
+use crate::returns::{Going, goings, return_addresses};
 use crate::trusted::TrustSets;
 use bus_ticks::Class;
 use control_flow::base_of;
 use image::Image;
-use known_places::OnTrust;
+use known_places::{Destination, OnTrust};
 use loop_bounds::Handler;
 use statement::{Loop, Statement};
 use std::alloc::{AllocError, Global};
+use std::collections::BTreeMap;
 use word_shapes::instr_at;
 
 /// An entry of a statement.
@@ -25,16 +31,27 @@ pub(crate) enum Entry {
     Access(Class),
     /// The class that a rule for a base register states of a word.
     Base(Class),
+    /// Where a word goes that returns or leaves: that it does is stated of it, or nothing is.
+    Return(Going),
     /// The most back edges that a stay in a loop takes.
     Loop(u32),
 }
 
-/// An entry, at the address of its word or its loop's header, and whether it is on trust; else it follows.
+/// What is proved of an entry.
+#[derive(Clone, Copy)]
+pub(crate) enum Verdict {
+    Follows,
+    OnTrust,
+    /// Where it is done, it goes elsewhere than it is taken to go.
+    False,
+}
+
+/// An entry, at the address of its word or its loop's header, and what is proved of it.
 #[derive(Clone, Copy)]
 pub(crate) struct Row {
     pub(crate) entry: Entry,
     pub(crate) at: u32,
-    pub(crate) on_trust: bool,
+    pub(crate) verdict: Verdict,
 }
 
 // What is left on trust, and the same to be looked up.
@@ -70,6 +87,16 @@ fn entry_of(statement: &Statement, at: u32, class: Class) -> Entry
     }
 }
 
+fn by_trust(on_trust: bool) -> Verdict
+    ensures { result ≡ by_trust on_trust }
+{
+    if on_trust {
+        Verdict::OnTrust
+    } else {
+        Verdict::Follows
+    }
+}
+
 fn class_row(handler: &Handler<'_>, left: Left<'_>, at: u32) -> Row
     requires { AreSetsOf left.trusted.now left.sets.now }
     ensures { IsClassRow handler.now.image.now handler.now.statement left.entry.trusted.now at result }
@@ -78,7 +105,7 @@ fn class_row(handler: &Handler<'_>, left: Left<'_>, at: u32) -> Row
     Row {
         entry: entry_of(&handler.statement, at, class),
         at,
-        on_trust: left.sets.has_class(at),
+        verdict: by_trust(left.sets.has_class(at)),
     }
 }
 
@@ -115,6 +142,81 @@ fn put_class_rows(
     Ok(())
 }
 
+fn verdict_of(going: Going) -> Verdict
+    ensures { result ≡ verdict_of going }
+{
+    match going {
+        Going::Back(_) | Going::AfterCall | Going::Out(_) => Verdict::Follows,
+        Going::BackInside(_) | Going::Unseen => Verdict::OnTrust,
+        Going::Elsewhere(_) => Verdict::False,
+    }
+}
+
+// Where the return at an address goes, which has a place.
+fn going_here(found: &BTreeMap<u32, Going>, at: u32) -> Going
+    ensures { result ≡ unwrap_or (get nat_cmp found.now at) Going.Unseen }
+{
+    match found.get(&at) {
+        Some(going) => *going,
+        None => Going::Unseen,
+    }
+}
+
+fn return_row(found: &BTreeMap<u32, Going>, at: u32) -> Row
+    ensures { result ≡ return_row (unwrap_or (get nat_cmp found.now at) Going.Unseen) at }
+{
+    let going = going_here(found, at);
+    Row {
+        entry: Entry::Return(going),
+        at,
+        verdict: verdict_of(going),
+    }
+}
+
+fn put_return_row(
+    rows: &mut Vec<Row>,
+    found: &BTreeMap<u32, Going>,
+    at: u32,
+) -> Result<(), AllocError>
+    ensures { OnOk result
+        (Appends (λ part. part ≡ return_row (unwrap_or (get nat_cmp found.entry.now at) Going.Unseen) at ∷ [])
+        rows.old.items rows.new.items) }
+{
+    let row = return_row(found, at);
+    rows.push(row)?;
+    Ok(())
+}
+
+fn put_found_rows(
+    rows: &mut Vec<Row>,
+    found: &BTreeMap<u32, Going>,
+    named: &[u32],
+) -> Result<(), AllocError>
+    ensures { OnOk result
+        (Appends (AreFoundRows (get nat_cmp found.entry.now) named.now) rows.old.items rows.new.items) }
+{
+    for at in named {
+        put_return_row(rows, found, *at)?;
+    }
+    Ok(())
+}
+
+fn put_return_rows(
+    rows: &mut Vec<Row>,
+    handler: &Handler<'_>,
+    destinations: &[Destination],
+) -> Result<(), AllocError>
+    requires { HasItsTree handler.now }
+    ensures { OnOk result
+        (Appends (AreReturnRows handler.now.image.now handler.now.statement handler.now.graph handler.now.tree
+        destinations.now) rows.old.items rows.new.items) }
+{
+    let alloc = *rows.allocator();
+    let named = return_addresses(alloc, handler)?;
+    let found = goings(alloc, handler, destinations)?;
+    put_found_rows(rows, &found, &named)
+}
+
 fn loop_row(left: Left<'_>, stated: &Loop) -> Row
     requires { AreSetsOf left.trusted.now left.sets.now }
     ensures { result ≡ loop_row left.entry.trusted.now stated.now }
@@ -122,7 +224,7 @@ fn loop_row(left: Left<'_>, stated: &Loop) -> Row
     Row {
         entry: Entry::Loop(stated.bound),
         at: stated.header,
-        on_trust: left.sets.has_loop(stated.header),
+        verdict: by_trust(left.sets.has_loop(stated.header)),
     }
 }
 
@@ -148,8 +250,9 @@ fn put_loop_rows(rows: &mut Vec<Row>, left: Left<'_>, loops: &[Loop]) -> Result<
     Ok(())
 }
 
-/// The rows of a handler's statement, by what is left on trust: where that is `None`, all is. The classes
-/// come first, by their words' addresses, and then the loops in the statement's order.
+/// The rows of a handler's statement, by what is left on trust: where that is `None`, all is; and by where
+/// the word of each place goes. The classes come first and then the returns, both by their words' addresses,
+/// and then the loops in the statement's order.
 ///
 /// Its time is that of sorting the words.
 ///
@@ -160,10 +263,12 @@ pub(crate) fn stated_rows(
     alloc: Global,
     handler: &Handler<'_>,
     trusted: &Option<OnTrust>,
+    destinations: &[Destination],
 ) -> Result<Vec<Row>, AllocError>
+    requires { HasItsTree handler.now }
     ensures { IfOk result
-        (λ rows. AreStatedRows handler.now.image.now handler.now.statement handler.now.graph trusted.now
-        rows.items) }
+        (λ rows. AreStatedRows handler.now.image.now handler.now.statement handler.now.graph handler.now.tree
+        trusted.now destinations.now rows.items) }
 {
     let sets = TrustSets::of(alloc, trusted)?;
     let named = classed(alloc, handler, trusted)?;
@@ -173,6 +278,7 @@ pub(crate) fn stated_rows(
     };
     let mut rows = Vec::new(alloc);
     put_class_rows(&mut rows, handler, left, &named)?;
+    put_return_rows(&mut rows, handler, destinations)?;
     put_loop_rows(&mut rows, left, handler.statement.loops().list())?;
     Ok(rows)
 }

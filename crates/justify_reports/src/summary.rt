@@ -5,11 +5,12 @@ ghost use Rattle.asm_text.specs.Appended.{Appends};
 ghost use Rattle.asm_text.specs.Hex.{hex8};
 ghost use Rattle.text_explained.specs.Rules.{register_text};
 ghost use Rattle.justify_reports.specs.Summary.{AreFactRows, counts_text, fact_row, facts_text};
-ghost use Rattle.justify_reports.specs.Summary.{follows_count, others_text, range_text, runs_text};
+ghost use Rattle.justify_reports.specs.Summary.{false_count, false_text, follows_count, is_false};
+ghost use Rattle.justify_reports.specs.Summary.{is_following, others_text, range_text, runs_text};
 ghost use Rattle.justify_reports.specs.Summary.{summary_text};
 ghost use Rattle.justify_reports.specs.Summary.{theorem_text, unseen_text};
 
-use crate::rows::Row;
+use crate::rows::{Row, Verdict};
 use arm2_decode::Register;
 use asm_text::hex8;
 use known_places::OnTrust;
@@ -19,8 +20,8 @@ use text_rows::{put, put_decimal};
 
 // What is on trust of every handler.
 const OTHERS: &[u8] =
-    b"On trust too: code unchanged, no exception or stop, the class of leave, returns,\n\
-    other stated targets, ways of branches, cycles of multiplies.\n";
+    b"On trust too: code unchanged, no exception or stop, the class of leave, where\n\
+    returns, stated jumps and calls go, ways of branches, cycles of multiplies.\n";
 
 /// What is said behind the rows.
 #[derive(Clone, Copy)]
@@ -86,11 +87,36 @@ pub(crate) fn put_facts(out: &mut Vec<u8>, given: &[Given]) -> Result<(), AllocE
     Ok(())
 }
 
+fn is_following(verdict: Verdict) -> bool
+    ensures { result ≡ is_following verdict }
+{
+    match verdict {
+        Verdict::Follows => true,
+        Verdict::OnTrust | Verdict::False => false,
+    }
+}
+
+fn is_false(verdict: Verdict) -> bool
+    ensures { result ≡ is_false verdict }
+{
+    match verdict {
+        Verdict::False => true,
+        Verdict::Follows | Verdict::OnTrust => false,
+    }
+}
+
 /// How many entries follow.
 pub(crate) fn follows_count(rows: &[Row]) -> usize
     ensures { result ≡ follows_count rows.now }
 {
-    rows.iter().filter(|row| !row.on_trust).count()
+    rows.iter().filter(|row| is_following(row.verdict)).count()
+}
+
+/// How many say `FALSE`.
+pub(crate) fn false_count(rows: &[Row]) -> usize
+    ensures { result ≡ false_count rows.now }
+{
+    rows.iter().filter(|row| is_false(row.verdict)).count()
 }
 
 fn unseen_text(left: &Option<OnTrust>) -> &'static [u8]
@@ -120,6 +146,16 @@ fn put_facts_text(out: &mut Vec<u8>, given: &[Given]) -> Result<(), AllocError>
     }
 }
 
+fn put_false(out: &mut Vec<u8>, count: usize) -> Result<(), AllocError>
+    ensures { OnOk result (out.new.items ≡ out.old.items ++ false_text count) }
+{
+    if count == 0 {
+        return Ok(());
+    }
+    put_decimal(out, count as u64)?;
+    put(out, b" FALSE, ")
+}
+
 fn put_counts(out: &mut Vec<u8>, rows: &[Row], given: &[Given]) -> Result<(), AllocError>
     ensures { OnOk result (out.new.items ≡ out.old.items ++ counts_text rows.now given.now) }
 {
@@ -127,6 +163,7 @@ fn put_counts(out: &mut Vec<u8>, rows: &[Row], given: &[Given]) -> Result<(), Al
     put(out, b" of ")?;
     put_decimal(out, rows.len() as u64)?;
     put(out, b" entries follow, ")?;
+    put_false(out, false_count(rows))?;
     put_facts_text(out, given)?;
     put(out, b".\n")
 }

@@ -1,4 +1,6 @@
 mod WordLemmas
 mod AroundLemmas
+mod LimitLemmas
 mod TableLemmas
+mod ArriveLemmas
 mod RunLemmas

@@ -1,5 +1,5 @@
 -- A run from the entry, by a table that is kept along each edge.
-use Rattle.std.proofs.Common.{◌≡◌, ◌≢◌, ◌∙◌, ℕ, ◌+◌, ◌<◌, ◌≤◌, ◌==◌, ◌&&◌, ◌⊎◌, ⊎_elim, inl, inr, Bool, true, false, cond, List, [], ◌∷◌, ◌++◌, length, Option, Some, append-nil, refl, sym, ap, subst, arith}
+use Rattle.std.proofs.Common.{◌≡◌, ◌≢◌, ◌∙◌, ℕ, ◌+◌, ◌<◌, ◌≤◌, ◌==◌, ◌&&◌, ◌⊎◌, ⊎_elim, inl, inr, Bool, true, false, List, [], ◌∷◌, ◌++◌, length, append-nil, refl, sym, ap, subst, arith}
 use Rattle.std.specs.Prelude.{Contains, get_or}
 use Rattle.std.specs.Cmp.Lexicographic.{pointwise}
 use Rattle.std.proofs.lemmas.Bool.{cases_Bool, cases_eq, cases_lt, eq-eqb, eqb-true, false≢true}
@@ -11,23 +11,15 @@ use Rattle.walks.proofs.Joins.{keeps_from_most, most_from_keeps}
 use Rattle.walks.proofs.Segments.{tail-le-most}
 use Rattle.image.specs.Image.{Words}
 use Rattle.statement.specs.Stated.{Stated, class_at}
-use Rattle.arm2_effect.specs.declared.step_end.Kind.TheVariants as ended
-use Rattle.arm2_effect.specs.Effects.{is_stopped}
-use Rattle.arm2_effect.specs.Modes.{r15_in}
-use Rattle.arm2_transfer.specs.Moved.{Moved}
-use Rattle.arm2_transfer.specs.declared.bus.Bus.{Bus}
 use Rattle.arm2_exec.specs.State.{State}
-use Rattle.arm2_exec.specs.Step.{Obeys, ObeysFetched, address_in, fetched, interrupt_due, state_after, with_lines}
+use Rattle.arm2_exec.specs.Step.{address_in, with_lines}
 use Rattle.arm2_exec.specs.declared.machine.Input.{Input}
 use Rattle.arm2_exec.specs.declared.machine.Stepped.{Stepped}
 use Rattle.control_flow.specs.Flow.{Flow, HasEdge, IsWellFormed, edge_shape}
 use Rattle.control_flow.specs.declared.edges.Edge.{Edge}
-use Rattle.control_flow.specs.declared.edges.Label.{Label}
 use Rattle.control_flow.specs.declared.places.Place.{Place}
 use Rattle.control_flow.specs.declared.places.Place.TheVariants.{At, Exit}
-use Rattle.control_flow.proofs.Firsts.{no_edge}
 use Rattle.flow_graph.specs.StepLaw.{Follows, IsEdgeOf, TransfersIn}
-use Rattle.flow_graph.proofs.StepLemmas.{IsPlainStep, plain_step, works_plain}
 use Rattle.numbered_walks.specs.Index.{edge_at, edges_of, span_at}
 use Rattle.numbered_walks.specs.Ordered as O
 use Rattle.numbered_walks.specs.Ordered.{is_in}
@@ -43,30 +35,23 @@ use Rattle.loop_bounds.specs.Tree.{IsTree, Tree, place_in}
 use Rattle.longest_walk.specs.Built.{step_at, steps_of}
 use Rattle.longest_walk.specs.Longest.{KeepsTree}
 use Rattle.longest_walk.proofs.CarryKeeps.{keeps_there}
-use Rattle.longest_walk.proofs.CarryWalks.{AreNumbersOf, agree_all, edge_same, header_same, instance_of, keeps_up, number_is, place_numbers}
+use Rattle.longest_walk.proofs.CarryWalks.{AreNumbersOf, agree_all, header_same, instance_of, keeps_up, place_numbers}
 use Rattle.kept_runs.proofs.SoFar.{front_keeps, map_append, next_to}
-use Rattle.known_words.specs.Given.{AreGiven}
-use Rattle.known_words.specs.Knowledge.{AreWords, Holds}
+use Rattle.known_words.specs.Knowledge.{Holds}
 use Rattle.known_words.specs.declared.given.Given.{Given}
 use Rattle.known_words.specs.declared.knowledge.Knowledge.{Knowledge}
 use Rattle.known_places.specs.Around.{NeverOver, around_at, known_at, turns_in}
 use Rattle.known_places.specs.OnTrust.{ExecutesOnTrust, GoesOnTrust, IsEdgeOnTrust, Justifies, KeepsTheBoundsAt, OnTrust}
 use Rattle.known_places.specs.Table.{IsProof}
-use Rattle.known_places.specs.Words.{StaysIn}
+use Rattle.known_places.specs.Limits.{KeepsSpans}
+use Rattle.known_places.specs.Words.{StaysWithin}
+use Rattle.known_places.proofs.ArriveLemmas as A
+use Rattle.known_places.proofs.ArriveLemmas.{Arrives, arrives, inside, obeys, plain_is}
 use Rattle.known_places.specs.declared.around.Around.{Around}
 
 second : (x y : Bool) → (x && y) ≡ true → y ≡ true
 second true y is = is
 second false y is = absurd (false≢true is)
-
-regs_by : (stops : Bool) (s a : State) → stops ≡ false → (cond stops s a).regs ≡ a.regs
-regs_by true s a is = absurd (cc)
-regs_by false s a is = refl
-
--- a step that ends as most do leaves the registers that its word does
-regs_after : (s : State) (i : Input) (m : Moved) → m.kind ≡ ended.Plain → (state_after s i m).regs ≡ m.regs
-unfolding state_after
-regs_after s i m plain = regs_by (is_stopped m.kind) s _ (ap is_stopped plain)
 
 module _ (words : Words) (st : Stated) (flow : Flow) (tree : Tree) (well : IsWellFormed flow) (its : IsTreeOf flow st.loops tree)
     (given : List Given) (around : List Around) (table : List Knowledge) (trusted : OnTrust)
@@ -79,10 +64,10 @@ module _ (words : Words) (st : Stated) (flow : Flow) (tree : Tree) (well : IsWel
 
   -- at the place of the number, after the walk, what is known holds
   abbrev IsThere : ℕ → List NumberedEdge → State → Type 0
-  IsThere number w s = number < length flow.places → Holds entry (turns_in tree.spans (around_at around number) w) (known_at table number) s.regs
+  IsThere = A.IsThere words st flow tree well t given around table p.table trusted.classes entry
 
   abbrev AreKept : List NumberedEdge → Type 0
-  AreKept w = (x : Span) → Contains tree.spans x → most_in x w ≤ x.bound
+  AreKept w = KeepsSpans tree.spans w
 
   -- ## Bounds
 
@@ -124,62 +109,21 @@ module _ (words : Words) (st : Stated) (flow : Flow) (tree : Tree) (well : IsWel
 
   -- ## One step
 
-  -- where a step along an edge has come, after the walk before it
-  record Comes (w : List NumberedEdge) (s : State) (i : Input) (stepped : Stepped) (after : State) (e : Edge) : Type 0 where
-    pub kept : IsEdgeOf words st flow.profile s i stepped after e
-    pub number : ℕ
-    pub number_in : number < length flow.edges
-    pub edge_is : step_at flow.edges number ≡ e
-    pub within : (edge_at tree.edges number).to ≤ length flow.places
-    pub place : place_in flow tree (edge_at tree.edges number).to ≡ e.to
-    pub there : IsThere (edge_at tree.edges number).to (w ++ edge_at tree.edges number ∷ []) after
-
   module _ (w : List NumberedEdge) (s : State) (i : Input) (stepped : Stepped) (after : State) (e : Edge) (h : IsEdgeOnTrust words st flow.profile trusted.classes s i stepped after e)
-      (number : ℕ) (within : number ≤ length flow.places) (at : place_in flow tree number ≡ e.from) (holds : IsThere number w s) (has : HasEdge flow e) where
+      (number : ℕ) (within : number ≤ length flow.places) (at : place_in flow tree number ≡ e.from) (holds : IsThere number w s) (has : HasEdge flow e) (bounded : AreKept w) where
     abbrev x : ExecutesOnTrust words st flow.profile trusted.classes h.action s i stepped after
     x = h.executes
 
-    abbrev k : ℕ
-    k = has.0
-
-    abbrev bus : Bus
-    bus = with_lines i.lines.0 s.bus
-
-    same : step_at flow.edges k ≡ e
-    same = get_or_default flow.edges k no_edge e has.1 ∙ has.2
-
-    number_of : number ≡ (edge_at tree.edges k).from
-    number_of =
-        let n = edge_same flow tree well t k has.1 in
-        let low : (edge_at tree.edges k).from < length flow.places = n.from_in in
-        number_is flow tree well t number (edge_at tree.edges k).from within (omega (arith, low))
-        (at ∙ sym (ap (λ (d : Edge). d.from) same) ∙ sym n.from_is)
-
-    inside : number < length flow.places
-    inside =
-        let n = edge_same flow tree well t k has.1 in
-        let low : (edge_at tree.edges k).from < length flow.places = n.from_in in
-        omega (arith, low, number_of)
-
-    plain_is : IsPlainStep s x.step.moved stepped
-    plain_is = plain_step s x.step.moved stepped x.step.stepped_is x.plain
-
-    obeys : Obeys x.has.word i.port s.regs bus x.step.moved
-    obeys =
-        subst (λ o. ObeysFetched o i.port s.regs bus x.step.moved) (x.fetches ∙ x.has.word_is)
-        (works_plain (interrupt_due bus (r15_in s.regs)) i.port s.regs bus x.step.moved x.step.works plain_is.kind)
-
-    from : (step_at flow.edges k).from ≡ At h.calls (address_in s.regs)
-    from = ap (λ (d : Edge). d.from) same ∙ h.taken.from
-
-    known : Holds entry (turns_in tree.spans (around_at around number) w) (known_at table number) s.regs
-    known = holds inside
-
     -- the stated class is granted, or follows
-    transfers : Contains trusted.classes (address_in s.regs) ⊎ StaysIn (class_at st (address_in s.regs) h.action.base) x.has.word (address_in s.regs) (known_at table number)
+    transfers : Contains trusted.classes (address_in s.regs)
+        ⊎ StaysWithin tree.spans (around_at around number) (class_at st (address_in s.regs) h.action.base) x.has.word (address_in s.regs) (known_at table number)
         → TransfersIn (class_at st (address_in s.regs) h.action.base) x.step.moved.accesses
     transfers (inl granted) = x.transfers granted
-    transfers (inr stays) = stays entry (turns_in tree.spans (around_at around number) w) s.regs i.port bus x.step.moved x.registers refl obeys plain_is.kind known
+    transfers (inr stays) =
+        stays entry s.regs w i.port (with_lines i.lines.0 s.bus) x.step.moved bounded x.registers refl
+        (obeys words st flow.profile trusted.classes s i stepped after h.action x)
+        (plain_is words st flow.profile trusted.classes s i stepped after h.action x).kind
+        (holds (inside words st flow tree well t given around table p.table trusted.classes entry w s i stepped after e h number within at holds has))
 
     kept : IsEdgeOf words st flow.profile s i stepped after e
     kept = record {
@@ -192,40 +136,18 @@ module _ (words : Words) (st : Stated) (flow : Flow) (tree : Tree) (well : IsWel
         fetches = x.fetches;
         step = x.step;
         plain = x.plain;
-        transfers = transfers (p.stays number inside h.calls (address_in s.regs) x.has.word h.action (at ∙ h.taken.from) x.has.word_is x.has.is);
+        transfers =
+            transfers
+            (p.stays number (inside words st flow tree well t given around table p.table trusted.classes entry w s i stepped after e h number within at holds has) h.calls
+            (address_in s.regs) x.has.word h.action (at ∙ h.taken.from) x.has.word_is x.has.is);
         cycles = x.cycles;
         way = x.way;
       };
       taken = h.taken;
     }
 
-    there : IsThere (edge_at tree.edges k).to (w ++ edge_at tree.edges k ∷ []) after
-    there low =
-        let whole = p.whole in
-        let carries = p.keeps k has.1 (omega (arith, low, whole)) in
-        let before : Holds entry (turns_in tree.spans (around_at around (edge_at tree.edges k).from) w) (known_at table (edge_at tree.edges k).from) s.regs =
-        subst (λ n. Holds entry (turns_in tree.spans (around_at around n) w) (known_at table n) s.regs) number_of known in
-        let labelled : _ ≡ (step_at flow.edges k).label = sym h.taken.label ∙ sym (ap (λ (d : Edge). d.label) same) in
-        let numbered : Contains tree.edges (edge_at tree.edges k) = Contains-get_or tree.edges k no_numbered_edge (let all = t.numbered.same in let lt = has.1 in omega (arith, all, lt)) in
-        subst (λ regs. Holds entry (turns_in tree.spans (around_at around (edge_at tree.edges k).to) (w ++ edge_at tree.edges k ∷ [])) (known_at table (edge_at tree.edges k).to) regs)
-        (sym (ap (λ (a : State). a.regs) x.step.after_is ∙ regs_after s i x.step.moved plain_is.kind))
-        (carries.2 h.calls (address_in s.regs) x.has.word from x.has.word_is entry
-        (turns_in tree.spans (around_at around (edge_at tree.edges k).from) w) (turns_in tree.spans (around_at around (edge_at tree.edges k).to) (w ++ edge_at tree.edges k ∷ []))
-        s.regs i.port bus x.step.moved h.action x.registers refl x.has.is labelled obeys plain_is.kind
-        (carries.1 (length flow.places) tree.edges w t.ordered numbered) before)
-
-    comes : Comes w s i stepped after e
-    comes =
-        let n = edge_same flow tree well t k has.1 in
-        record {
-          kept = kept;
-          number = k;
-          number_in = has.1;
-          edge_is = same;
-          within = n.to_in;
-          place = n.to_is ∙ ap (λ (d : Edge). d.to) same;
-          there = there;
-        }
+    comes : Arrives words st flow tree well t given around table p.table trusted.classes entry w after e
+    comes = arrives words st flow tree well t given around table p.table trusted.classes entry w s i stepped after e h number within at holds has
 
   -- ## The bounds after one more edge
 
@@ -309,7 +231,7 @@ module _ (words : Words) (st : Stated) (flow : Flow) (tree : Tree) (well : IsWel
   follows_from [] (e ∷ walk) s number end ks within ins so_far holds leads granted goes = absurd goes
   follows_from (i ∷ inputs) [] s number end ks within ins so_far holds leads granted goes = absurd goes
   follows_from (i ∷ inputs) (e ∷ walk) s number end ks within ins so_far holds (has, from, rest) granted (stepped, next, edge, on) =
-      let c = comes (w_of ks) s i stepped next e edge number within (sym from) holds has in
+      let c = comes (w_of ks) s i stepped next e edge number within (sym from) holds has so_far in
       let more : List ℕ = ks ++ c.number ∷ [] in
       let up : steps_of flow.edges (ks ++ c.number ∷ []) ++ walk ≡ steps_of flow.edges ks ++ e ∷ walk =
       ap (λ (v : List Edge). v ++ walk) (map_append (step_at flow.edges) ks (c.number ∷ []))
@@ -325,7 +247,7 @@ module _ (words : Words) (st : Stated) (flow : Flow) (tree : Tree) (well : IsWel
       (all_kept ks ins c.number c.number_in so_far next c.there granted_so)
       (subst (λ w. IsThere (edge_at tree.edges c.number).to w next) (sym down) c.there)
       (subst (λ (v : Place). Leads edge_shape (HasEdge flow) v walk end) (sym c.place) rest) granted_on on in
-      (subst (KeepsTree tree) up on_there.0, (stepped, next, c.kept, on_there.1))
+      (subst (KeepsTree tree) up on_there.0, (stepped, next, kept (w_of ks) s i stepped next e edge number within (sym from) holds has so_far, on_there.1))
 
   none_kept : AreKept []
   none_kept x has = omega arith
@@ -336,6 +258,6 @@ pub justified : (words : Words) (st : Stated) (flow : Flow) (tree : Tree) → Is
 justified words st flow tree well its given around table trusted p s inputs walk place fit are leads keeps goes =
     let found = follows_from words st flow tree well its given around table trusted p s.regs inputs walk s 0 place [] (omega arith)
     (All-nil (λ k. k < length flow.edges)) (none_kept words st flow tree well its given around table trusted p s.regs)
-    (λ low. p.begins s.regs fit are)
+    (λ low. p.table.begins s.regs fit are)
     (subst (λ (v : Place). Leads edge_shape (HasEdge flow) v walk place) (sym its.tree_is.entry_first) leads) keeps goes in
     (λ i is. found.0 i ((its.instances i).1 is), found.1)

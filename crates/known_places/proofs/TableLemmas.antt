@@ -1,5 +1,8 @@
 -- What is shown of one edge or one place, for all that stand there.
-use Rattle.std.proofs.Common.{◌≡◌, ◌∙◌, ℕ, ◌<◌, arith, ◌⊎◌, inl, inr, List, [], ◌∷◌, ◌++◌, length, Some, refl, sym, ap, subst}
+use Rattle.std.proofs.Common.{◌≡◌, ◌∙◌, ℕ, ◌+◌, ◌<◌, ◌≤◌, arith, ◌⊎◌, ⊎_elim, inl, inr, List, [], ◌∷◌, ◌++◌, length, length-append, Some, refl, sym, ap, subst}
+use Rattle.std.proofs.Math.Seq.{get_or-append_seam}
+use Rattle.std.proofs.lemmas.Bool.{cases_lt}
+use Rattle.std.proofs.lemmas.List.{get_or_append_left}
 use Rattle.std.specs.Prelude.{Contains}
 use Rattle.std.proofs.lemmas.List.Elements.{Contains-append_left, Contains-append_right}
 use Rattle.std.proofs.lemmas.Option.{same_Some}
@@ -19,10 +22,13 @@ use Rattle.longest_walk.specs.Built.{step_at}
 use Rattle.numbered_walks.specs.Index.{edge_at}
 use Rattle.numbered_walks.specs.declared.span.NumberedEdge.{NumberedEdge}
 use Rattle.known_words.specs.declared.knowledge.Knowledge.{Knowledge}
-use Rattle.known_places.specs.Around.{known_at}
+use Rattle.known_places.specs.Around.{around_at, known_at}
+use Rattle.known_places.specs.Destinations.{PlaceGoesTo, WordGoesTo, destination_at}
+use Rattle.known_places.specs.declared.destination.Destination.{Destination}
+use Rattle.known_places.specs.declared.destination.Destination.TheVariants.{Unknown}
 use Rattle.known_places.specs.Table.{EdgeKeeps, KeepsAlong, StaysAt}
 use Rattle.known_places.specs.declared.around.Around.{Around}
-use Rattle.known_places.specs.Words.{Carries, StaysIn}
+use Rattle.known_places.specs.Words.{Carries, StaysWithin}
 
 -- one address has one word
 one_word : (words : Words) (a b v w : ℕ) → a ≡ b → word_of words a ≡ Some v → word_of words b ≡ Some w → v ≡ w
@@ -44,33 +50,60 @@ along_edge words flow tree around known k edge numbered e n keeps =
     subst (λ (d : Edge). EdgeKeeps words tree.spans around known d (edge_at tree.edges k)) e
     (subst (λ ns. EdgeKeeps words tree.spans around known edge (edge_at ns k)) n keeps)
 
-module _ (words : Words) (flow : Flow) (tree : Tree) (table : List Knowledge) where
+module _ (words : Words) (flow : Flow) (tree : Tree) (around : List Around) (table : List Knowledge) where
   module _ (st : Stated) where
     pub stays_known : (trusted : List ℕ) (number : ℕ) (calls : List ℕ) (address word : ℕ) → place_in flow tree number ≡ At calls address
         → word_of words address ≡ Some word
-        → ((action : Action) → IsAction word action → StaysIn (class_at st address action.base) word address (known_at table number))
-        → StaysAt words st flow tree table trusted number
+        → ((action : Action) → IsAction word action → StaysWithin tree.spans (around_at around number) (class_at st address action.base) word address (known_at table number))
+        → StaysAt words st flow tree around table trusted number
     stays_known trusted number calls address word place has stays others a w action is also acts =
         let at : address ≡ a = ap place_address (sym place ∙ is) in
         let same : w ≡ word = sym (one_word words address a word w at has also) in
-        inr (subst (λ n. StaysIn (class_at st n action.base) w n (known_at table number)) at
-        (subst (λ v. StaysIn (class_at st address action.base) v address (known_at table number)) (sym same)
+        inr (subst (λ n. StaysWithin tree.spans (around_at around number) (class_at st n action.base) w n (known_at table number)) at
+        (subst (λ v. StaysWithin tree.spans (around_at around number) (class_at st address action.base) v address (known_at table number)) (sym same)
         (stays action (subst (λ v. IsAction v action) same acts))))
 
-    pub stays_before : (trusted more : List ℕ) (number : ℕ) → StaysAt words st flow tree table trusted number
-        → StaysAt words st flow tree table (trusted ++ more) number
+    pub stays_before : (trusted more : List ℕ) (number : ℕ) → StaysAt words st flow tree around table trusted number
+        → StaysAt words st flow tree around table (trusted ++ more) number
     stays_before trusted more number stays calls a w action is also acts = by_case (stays calls a w action is also acts)
       where
-        by_case : Contains trusted a ⊎ StaysIn (class_at st a action.base) w a (known_at table number)
-            → Contains (trusted ++ more) a ⊎ StaysIn (class_at st a action.base) w a (known_at table number)
+        by_case : Contains trusted a ⊎ StaysWithin tree.spans (around_at around number) (class_at st a action.base) w a (known_at table number)
+            → Contains (trusted ++ more) a ⊎ StaysWithin tree.spans (around_at around number) (class_at st a action.base) w a (known_at table number)
         by_case (inl has) = inl (Contains-append_left trusted more a has)
         by_case (inr other) = inr other
 
-    pub stays_after : (trusted more : List ℕ) (number : ℕ) → StaysAt words st flow tree table more number
-        → StaysAt words st flow tree table (trusted ++ more) number
+    pub stays_after : (trusted more : List ℕ) (number : ℕ) → StaysAt words st flow tree around table more number
+        → StaysAt words st flow tree around table (trusted ++ more) number
     stays_after trusted more number stays calls a w action is also acts = by_case (stays calls a w action is also acts)
       where
-        by_case : Contains more a ⊎ StaysIn (class_at st a action.base) w a (known_at table number)
-            → Contains (trusted ++ more) a ⊎ StaysIn (class_at st a action.base) w a (known_at table number)
+        by_case : Contains more a ⊎ StaysWithin tree.spans (around_at around number) (class_at st a action.base) w a (known_at table number)
+            → Contains (trusted ++ more) a ⊎ StaysWithin tree.spans (around_at around number) (class_at st a action.base) w a (known_at table number)
         by_case (inl has) = inl (Contains-append_right trusted more a has)
         by_case (inr other) = inr other
+
+pub goes_there : (words : Words) (flow : Flow) (tree : Tree) (table : List Knowledge) (number : ℕ) (calls : List ℕ) (address word : ℕ)
+    → place_in flow tree number ≡ At calls address → word_of words address ≡ Some word → (d : Destination)
+    → WordGoesTo word address (known_at table number) d → PlaceGoesTo words flow tree table number d
+goes_there words flow tree table number calls address word place has d goes others a w is also =
+    let at : address ≡ a = ap place_address (sym place ∙ is) in
+    subst (λ n. WordGoesTo w n (known_at table number) d) at
+    (subst (λ v. WordGoesTo v address (known_at table number) d) (one_word words address a word w at has also) goes)
+
+-- one destination more
+pub destinations_more : (Goes : ℕ → Destination → Type 0) (old new : List Destination) (number : ℕ) (d : Destination) → length old ≡ number
+    → ((k : ℕ) → k < number → Goes k (destination_at old k)) → new ≡ old ++ d ∷ [] → Goes number d
+    → (length new ≡ number + 1) × ((k : ℕ) → k < number + 1 → Goes k (destination_at new k))
+destinations_more Goes old new number d whole goes is there =
+    let longer : length new ≡ length (old ++ d ∷ []) = ap length is in
+    let at_end : destination_at (old ++ d ∷ []) number ≡ d =
+    ap (destination_at (old ++ d ∷ [])) (sym whole) ∙ get_or-append_seam old d [] Unknown in (
+      omega (arith, longer, length-append old (d ∷ []), whole),
+      λ k lt. subst (λ (ds : List Destination). Goes k (destination_at ds k)) (sym is)
+          (⊎_elim
+          (λ (less : k < number).
+          subst (Goes k) (sym (get_or_append_left old (d ∷ []) Unknown k (omega (arith, less, whole)))) (goes k less))
+          (λ (more : number ≤ k).
+          let same : number ≡ k = omega (arith, lt, more) in
+          subst (λ n. Goes n (destination_at (old ++ d ∷ []) n)) same (subst (Goes number) (sym at_end) there))
+          (cases_lt k number)),
+    )

@@ -8,13 +8,21 @@ use Rattle.arm2_decode.specs.declared.instr.Instr.{Instr}
 use Rattle.arm2_decode.specs.declared.instr.Operation.{Operation}
 use Rattle.arm2_decode.specs.declared.instr.Unallocated.{Unallocated}
 use Rattle.arm2_decode.specs.declared.names.Cond.{Cond}
+use Rattle.arm2_decode.specs.Writers.{data_writes_pc}
+use Rattle.arm2_decode.specs.declared.names.Opcode.{Opcode}
+use Rattle.arm2_decode.specs.declared.names.Register.{Register}
+use Rattle.shifter.specs.declared.shifts.Shifted.{Shifted}
+use Rattle.operation_laws.specs.Leaves.{LeavesData}
+use Rattle.std.proofs.lemmas.Bool.{cond-true}
 use Rattle.arm2_decode.proofs.Unique.{never_both, one_instr, one_unallocated}
 use Rattle.arm2_effect.specs.declared.step_end.Kind.{Kind}
 use Rattle.arm2_effect.specs.declared.step_end.Kind.TheVariants as ended
 use Rattle.arm2_effect.specs.declared.step_end.Why.TheVariants as why
 use Rattle.arm2_effect.specs.Effects.{skipped, stopped}
 use Rattle.arm2_effect.specs.Modes.{r15_in}
-use Rattle.arm2_effect.specs.ProgramCounter.{flags_of}
+use Rattle.arm2_effect.specs.Operands.{first_of}
+use Rattle.arm2_effect.specs.Outcomes.{outcome_of}
+use Rattle.arm2_effect.specs.ProgramCounter.{address_of, flags_of}
 use Rattle.arm2_transfer.specs.Moved.{Moved, on_bus}
 use Rattle.arm2_transfer.specs.Operations.{operation_moved}
 use Rattle.arm2_transfer.specs.declared.bus.Bus.{Bus}
@@ -32,6 +40,8 @@ use Rattle.known_words.specs.Knowledge.{Holds}
 use Rattle.known_words.specs.declared.knowledge.Knowledge.{Knowledge}
 use Rattle.known_words.proofs.ForgetLemmas.{skipped_holds}
 use Rattle.known_places.specs.Words.{Carries, MovesIn, StaysIn}
+use Rattle.known_places.specs.Destinations.{IsDestination, JumpsTo, WordGoesTo}
+use Rattle.known_places.specs.declared.destination.Destination.{Destination}
 
 -- ## Labels
 
@@ -122,6 +132,28 @@ pub unallocated_stays : (class : Class) (word address : ℕ) (known : Knowledge)
     → StaysIn class word address known
 unallocated_stays class word address known u none entry turns regs port bus m long at obeys plain holds =
     (word_moves class regs bus word port (unallocated_reading u regs) m (inr (u, none, refl)) obeys).in_class plain tt
+
+-- ## Destinations
+
+pub data_jumps : (opcode : Opcode) (sets_flags : Bool) (rn rd : Register) (by : ℕ) (operand : Shifted) (before after entry : List ℕ)
+    (destination : Destination) → data_writes_pc opcode rd ≡ true → LeavesData opcode sets_flags rn rd by operand before after
+    → IsDestination entry destination (address_of (outcome_of opcode (first_of by rn before) operand (flags_of (r15_in before))).value)
+    → IsDestination entry destination (address_in after)
+data_jumps opcode sets_flags rn rd by operand before after entry destination writes left is =
+    subst (IsDestination entry destination)
+    (sym (left.r15.address ∙ cond-true (data_writes_pc opcode rd) _ _ writes)) is
+
+pub instr_goes : (i : Instr) (address : ℕ) (before there : Knowledge) (destination : Destination)
+    → ((entry turns now : List ℕ) → condition_holds i.cond (flags_of (r15_in now)) ≡ true → Holds entry turns before now → Holds entry turns there now)
+    → JumpsTo i.operation address there destination → (word : ℕ) → Means word i → WordGoesTo word address before destination
+instr_goes i address before there destination narrows jumps word means entry turns regs port bus m action long at is label obeys plain holds =
+    let does : holds_in regs i.cond ≡ true =
+    ap (holds_in regs) (sym (action_cond word i action means is)) ∙ done_only (holds_in regs action.cond) label in
+    let moved : m ≡ operation_moved i.operation port regs bus =
+    obeyed word port regs bus m i means obeys
+    ∙ ap (λ (b : Bool). cond b (operation_moved i.operation port regs bus) (on_bus bus (skipped regs))) does in
+    subst (λ (x : Moved). IsDestination entry destination (address_in x.regs)) (sym moved)
+    (jumps entry turns regs port bus long at (ap (λ (x : Moved). x.kind) (sym moved) ∙ plain) (narrows entry turns regs does holds))
 
 -- ## Options
 

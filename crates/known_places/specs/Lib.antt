@@ -1,4 +1,6 @@
 pub mod OnTrust
-pub mod Words
 pub mod Around
+pub mod Limits
+pub mod Words
 pub mod Table
+pub mod Destinations

@@ -19,7 +19,7 @@ use Rattle.known_words.specs.declared.knowledge.Knowledge.{Knowledge}
 use Rattle.known_words.specs.declared.turning.Turns.{Turns}
 use Rattle.known_places.specs.Around.{BoundFollows, TurnsAlong, around_at, known_at, turns_in}
 use Rattle.known_places.specs.OnTrust.{OnTrust}
-use Rattle.known_places.specs.Words.{CarriesAlong, StaysIn}
+use Rattle.known_places.specs.Words.{CarriesAlong, StaysWithin}
 use Rattle.known_places.specs.declared.around.Around.{Around}
 
 -- what is known at the first place holds of any registers at the entry whose words are of 32 bits and as
@@ -43,21 +43,27 @@ abbrev pub KeepsAlong : Words → Flow → Tree → List Around → List Knowled
 KeepsAlong words flow tree around known k =
     EdgeKeeps words tree.spans around known (step_at flow.edges k) (edge_at tree.edges k)
 
--- at the place of the number, unless its address is trusted, the stated class of its word follows
-abbrev pub StaysAt : Words → Stated → Flow → Tree → List Knowledge → (trusted : List ℕ) → ℕ → Type 0
-StaysAt words st flow tree known trusted number =
+-- at the place of the number, unless its address is trusted, the stated class of its word follows where all
+-- loops keep their bounds
+abbrev pub StaysAt : Words → Stated → Flow → Tree → List Around → List Knowledge → (trusted : List ℕ) → ℕ → Type 0
+StaysAt words st flow tree around known trusted number =
     (calls : List ℕ) (address word : ℕ) (action : Action)
     → place_in flow tree number ≡ At calls address → word_of words address ≡ Some word → IsAction word action
     → Contains trusted address
-    ⊎ StaysIn (class_at st address action.base) word address (known_at known number)
+    ⊎ StaysWithin tree.spans (around_at around number) (class_at st address action.base) word address
+    (known_at known number)
 
--- what is known holds at the entry and along each edge, and each class and each bound follows from it or is
--- on trust
-pub record IsProof (words : Words) (st : Stated) (flow : Flow) (tree : Tree) (given : List Given)
-    (around : List Around) (known : List Knowledge) (trusted : OnTrust) : Type 0 where
+-- a row for each place; what is known holds at the entry and along each edge
+pub record HoldsAlong (words : Words) (flow : Flow) (tree : Tree) (given : List Given) (around : List Around)
+    (known : List Knowledge) : Type 0 where
   pub whole : length known ≡ length flow.places
   pub begins : BeginsKnown tree.spans around given known
   pub keeps : (k : ℕ) → k < length flow.edges → KeepsAlong words flow tree around known k
+
+-- the table holds, and each class and each bound follows from it or is on trust
+pub record IsProof (words : Words) (st : Stated) (flow : Flow) (tree : Tree) (given : List Given)
+    (around : List Around) (known : List Knowledge) (trusted : OnTrust) : Type 0 where
+  pub table : HoldsAlong words flow tree given around known
   pub stays : (number : ℕ) → number < length flow.places
-      → StaysAt words st flow tree known trusted.classes number
+      → StaysAt words st flow tree around known trusted.classes number
   pub bounds : (k : ℕ) → k < length tree.spans → BoundFollows flow tree around known trusted.loops k

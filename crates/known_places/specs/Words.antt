@@ -11,10 +11,15 @@ use Rattle.control_flow.specs.declared.actions.Action.{Action}
 use Rattle.control_flow.specs.declared.edges.Label.{Label}
 use Rattle.flow_graph.specs.StepLaw.{TransfersIn, label_in}
 use Rattle.kept_runs.specs.Transfers.{HasNoOther, words_of}
+use Rattle.numbered_walks.specs.declared.span.NumberedEdge.{NumberedEdge}
+use Rattle.numbered_walks.specs.declared.span.Span.{Span}
 use Rattle.known_words.specs.Knowledge.{Holds}
 use Rattle.known_words.specs.Turning.{AreTurned}
 use Rattle.known_words.specs.declared.knowledge.Knowledge.{Knowledge}
 use Rattle.known_words.specs.declared.turning.Turns.{Turns}
+use Rattle.known_places.specs.Around.{turns_in}
+use Rattle.known_places.specs.Limits.{KeepsSpans}
+use Rattle.known_places.specs.declared.around.Around.{Around}
 
 -- Wherever the word at the address is done, or passed over, as the label says, with neither an exception nor
 -- a stop, and the first is known of the registers before it, the second is known of those after it.
@@ -40,6 +45,14 @@ StaysIn class word address known =
     (entry turns regs : List ℕ) (port : ℕ) (bus : Bus) (m : Moved) → length regs ≡ 27
     → address_in regs ≡ address → Obeys word port regs bus m → m.kind ≡ Plain → Holds entry turns known regs
     → TransfersIn class m.accesses
+
+-- the same after a walk that keeps the bounds of the spans, where the loops that are counted there have turned
+-- as the walk turned them
+abbrev pub StaysWithin : List Span → Around → Class → (word address : ℕ) → Knowledge → Type 0
+StaysWithin spans around class word address known =
+    (entry regs : List ℕ) (walk : List NumberedEdge) (port : ℕ) (bus : Bus) (m : Moved) → KeepsSpans spans walk
+    → length regs ≡ 27 → address_in regs ≡ address → Obeys word port regs bus m → m.kind ≡ Plain
+    → Holds entry (turns_in spans around walk) known regs → TransfersIn class m.accesses
 
 -- of the instruction at the address alone: none of the words that it would transfer is of another class
 abbrev pub MovesIn : Class → Operation → (address : ℕ) → Knowledge → Type 0

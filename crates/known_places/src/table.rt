@@ -9,15 +9,16 @@ ghost use Rattle.loop_bounds.specs.Tree.{IsTree};
 ghost use Rattle.numbered_walks.specs.declared.span.Span.{Span};
 ghost use Rattle.statement.specs.Stated.{class_at};
 ghost use Rattle.known_places.specs.OnTrust.{Justifies};
-ghost use Rattle.known_places.specs.Table.{BeginsKnown, EdgeKeeps, KeepsAlong, StaysAt};
+ghost use Rattle.known_places.specs.Table.{BeginsKnown, EdgeKeeps, HoldsAlong, KeepsAlong, StaysAt};
 ghost use Rattle.known_places.specs.declared.around.Around.{Around};
-ghost use Rattle.known_places.specs.Words.{Carries, StaysIn};
+ghost use Rattle.known_places.specs.Words.{Carries, StaysIn, StaysWithin};
 
-use crate::around::{loops_around, turns_along};
+use crate::around::{Around, loops_around, turns_along};
+use crate::limits::limited;
 use crate::loops::{Table, loops_on_trust};
 use crate::on_trust::OnTrust;
 use crate::word::{known_after, stays_in};
-use control_flow::{Edge, Label, Place, action_of};
+use control_flow::{Edge, Label, Place, action_of, graphs_are_well_formed};
 use known_words::{Given, Knowledge};
 use loop_bounds::{Handler, place_in};
 use numbered_walks::NumberedEdge;
@@ -110,14 +111,31 @@ fn follows(handler: &Handler<'_>, known: &Knowledge, address: u32, word: u32) ->
     stays_in(class, word, address, known)
 }
 
+// The same by what is known after a walk that keeps the bounds of all loops.
+fn follows_within(
+    handler: &Handler<'_>,
+    around: Around,
+    known: &Knowledge,
+    address: u32,
+    word: u32,
+) -> bool
+    ensures { IsTrue result → (action : Action) → IsAction word action
+        → StaysWithin handler.now.tree.spans around
+        (class_at handler.now.statement address action.base) word address known.now }
+{
+    let bounded = limited(handler.tree.spans(), around, known);
+    follows(handler, &bounded, address, word)
+}
+
 // Whether it is seen to follow at the place of a number, and if not at which address it is on trust.
-fn on_trust_at(handler: &Handler<'_>, table: &[Knowledge], number: usize) -> Option<u32>
-    requires { number < length table.now }
+fn on_trust_at(handler: &Handler<'_>, table: &Table<'_>, number: usize) -> Option<u32>
+    requires known { number < length table.now.known.now }
+    requires around { number < length table.now.around.now }
     ensures { MatchOption result
-        (StaysAt handler.now.image.now handler.now.statement handler.now.graph handler.now.tree table.now []
-        number)
+        (StaysAt handler.now.image.now handler.now.statement handler.now.graph handler.now.tree
+        table.now.around.now table.now.known.now [] number)
         (λ address. StaysAt handler.now.image.now handler.now.statement handler.now.graph handler.now.tree
-        table.now (address ∷ []) number) }
+        table.now.around.now table.now.known.now (address ∷ []) number) }
 {
     let Place::At(_, address) = place_in(&handler.graph, &handler.tree, number) else {
         return None;
@@ -125,7 +143,8 @@ fn on_trust_at(handler: &Handler<'_>, table: &[Knowledge], number: usize) -> Opt
     let Some(word) = handler.image.word_at(address) else {
         return None;
     };
-    if follows(handler, &table[number], address, word) {
+    let known = &table.known[number];
+    if follows_within(handler, table.around[number], known, address, word) {
         return None;
     }
     Some(address)
@@ -135,13 +154,14 @@ fn on_trust_at(handler: &Handler<'_>, table: &[Knowledge], number: usize) -> Opt
 fn put_on_trust(
     trusted: &mut Vec<u32>,
     handler: &Handler<'_>,
-    table: &[Knowledge],
+    table: &Table<'_>,
     number: usize,
 ) -> Result<(), AllocError>
-    requires { number < length table.now }
+    requires known { number < length table.now.known.now }
+    requires around { number < length table.now.around.now }
     ensures { OnOk result ((more : List ℕ) × (trusted.new.items ≡ trusted.old.items ++ more)
         × StaysAt handler.entry.now.image.now handler.entry.now.statement handler.entry.now.graph
-        handler.entry.now.tree table.entry.now more number) }
+        handler.entry.now.tree table.entry.now.around.now table.entry.now.known.now more number) }
 {
     if let Some(address) = on_trust_at(handler, table, number) {
         trusted.push(address)?;
@@ -153,14 +173,15 @@ fn put_on_trust(
 fn addresses_on_trust(
     alloc: Global,
     handler: &Handler<'_>,
-    table: &[Knowledge],
+    table: &Table<'_>,
 ) -> Result<Vec<u32>, AllocError>
-    ensures { IfOk result (λ trusted. (number : ℕ) → number < length table.now
-        → StaysAt handler.now.image.now handler.now.statement handler.now.graph handler.now.tree table.now
-        trusted.items number) }
+    requires { length table.now.around.now ≡ length table.now.known.now }
+    ensures { IfOk result (λ trusted. (number : ℕ) → number < length table.now.known.now
+        → StaysAt handler.now.image.now handler.now.statement handler.now.graph handler.now.tree
+        table.now.around.now table.now.known.now trusted.items number) }
 {
     let mut trusted = Vec::new(alloc);
-    for number in 0..table.len() {
+    for number in 0..table.known.len() {
         put_on_trust(&mut trusted, handler, table, number)?;
     }
     Ok(trusted)
@@ -175,6 +196,35 @@ fn begins_known(table: &[Knowledge], given: &[Given]) -> bool
         return false;
     }
     Knowledge::given(given).implies(&table[0])
+}
+
+/// The loops that are counted at each place, where the table has a row for each place, holds at the entry by
+/// the facts, and is seen to go over along each edge. `AllocError`: an allocation failed.
+pub(crate) fn holds_along(
+    alloc: Global,
+    handler: &Handler<'_>,
+    given: &[Given],
+    table: &[Knowledge],
+) -> Result<Option<Vec<Around>>, AllocError>
+    requires { HasItsTree handler.now }
+    ensures { IfOk result (λ found. IfSome found (λ around. HoldsAlong handler.now.image.now handler.now.graph
+        handler.now.tree given.now around.items table.now)) }
+{
+    if table.len() != handler.graph.places().len() {
+        return Ok(None);
+    }
+    if !begins_known(table, given) {
+        return Ok(None);
+    }
+    let around = loops_around(alloc, handler)?;
+    let found = Table {
+        known: table,
+        around: &around,
+    };
+    if !keeps_along_all(handler, &found) {
+        return Ok(None);
+    }
+    Ok(Some(around))
 }
 
 /// What is left on trust of the statement, by facts on registers before the first step and by a table of what
@@ -202,21 +252,18 @@ pub fn left_on_trust(
     ensures { IfOk result (λ found. IfSome found (λ trusted. Justifies handler.now.image.now
         handler.now.statement handler.now.graph given.now trusted)) }
 {
-    if table.len() != handler.graph.places().len() {
+    let Some(around) = holds_along(alloc, handler, given, table)? else {
+        return Ok(None);
+    };
+    if around.len() != table.len() {
         return Ok(None);
     }
-    if !begins_known(table, given) {
-        return Ok(None);
-    }
-    let around = loops_around(alloc, handler)?;
     let found = Table {
         known: table,
         around: &around,
     };
-    if !keeps_along_all(handler, &found) {
-        return Ok(None);
-    }
-    let classes = addresses_on_trust(alloc, handler, table)?;
+    graphs_are_well_formed(&handler.graph);
+    let classes = addresses_on_trust(alloc, handler, &found)?;
     let loops = loops_on_trust(alloc, handler, &found)?;
     Ok(Some(OnTrust { classes, loops }))
 }

@@ -2,8 +2,10 @@
 //! is written begin. Where these lines are lost, nothing else is.
 #![tactic(auto)]
 
+mod late;
 mod lines;
 mod watched;
 
+pub use late::{ClockTimer, LateOutput, Timer};
 pub use lines::show_reading;
 pub use watched::WatchedOutput;

@@ -8,3 +8,4 @@ mod StretchLaws
 mod TableLaws
 mod TogetherLaws
 mod TotalLaws
+mod CallerLaws

@@ -8,27 +8,27 @@ use Rattle.control_flow.specs.Flow.{Flow}
 use Rattle.loop_bounds.specs.Tree.{IsTree, Tree}
 use Rattle.numbered_walks.specs.Ordered.{is_in}
 use Rattle.numbered_walks.specs.declared.span.Span.{Span}
-use Rattle.text_graph.specs.Clusters.{clusters, depth_in, loop_text, routines}
+use Rattle.text_graph.specs.Clusters.{call_texts, clusters, depth_in, loop_text}
 use Rattle.text_graph.specs.Scene.{Scene}
 use Rattle.text_graph.specs.Stretches.{AreInside, loops_of}
 
 module _ (scene : Scene) (first : ℕ) (calls : List ℕ) where
   pub cluster_more : (loops : List Span) (i : ℕ) (d : Span) (inside depth deeper : ℕ) (old opened new all : List ℕ) → old ++ clusters scene first calls inside (drop i loops) ≡ all → i < length loops
-      → depth ≡ depth_in scene calls (get_or loops i d) → opened ≡ old ++ routines calls inside depth → new ≡ opened ++ loop_text scene first (get_or loops i d) → deeper ≡ max inside depth
+      → depth ≡ depth_in scene calls (get_or loops i d) → opened ≡ old ++ call_texts scene first calls inside depth → new ≡ opened ++ loop_text scene first (get_or loops i d) → deeper ≡ max inside depth
       → new ++ clusters scene first calls deeper (drop (i + 1) loops) ≡ all
   cluster_more loops i d inside depth deeper old opened new all h lt depth_is routines_are loop_is deeper_is =
       let s = get_or loops i d in
       let rest = drop (i + 1) loops in
-      let r = routines calls inside (depth_in scene calls s) in
+      let r = call_texts scene first calls inside (depth_in scene calls s) in
       let l = loop_text scene first s in
       let m = clusters scene first calls (max inside (depth_in scene calls s)) rest in
       ap (λ n. new ++ clusters scene first calls n rest) (deeper_is ∙ ap (max inside) depth_is)
-      ∙ ap (λ xs. xs ++ m) (loop_is ∙ ap (λ xs. xs ++ l) (routines_are ∙ ap (λ n. old ++ routines calls inside n) depth_is))
+      ∙ ap (λ xs. xs ++ m) (loop_is ∙ ap (λ xs. xs ++ l) (routines_are ∙ ap (λ n. old ++ call_texts scene first calls inside n) depth_is))
       ∙ append_assoc (old ++ r) l m ∙ append_assoc old r (l ++ m)
       ∙ ap (λ ss. old ++ clusters scene first calls inside ss) (sym (drop_more loops i d lt)) ∙ h
 
   pub clusters_end : (loops : List Span) (i inside : ℕ) (old new all : List ℕ) → old ++ clusters scene first calls inside (drop i loops) ≡ all → length loops ≤ i
-      → new ≡ old ++ routines calls inside (length calls) → new ≡ all
+      → new ≡ old ++ call_texts scene first calls inside (length calls) → new ≡ all
   clusters_end loops i inside old new all h le last =
       last ∙ ap (λ ss. old ++ clusters scene first calls inside ss) (sym (drop_of_length-le loops le)) ∙ h
 

@@ -1,6 +1,8 @@
 -- Frames of a drawing, which are clusters: one for each list of calls, and one for each instance of a loop. A
--- cluster that is named again is the same one (a choice of what the DOT language of Graphviz offers).
+-- cluster that is named again is the same one, and keeps its label (a choice of what the DOT language of
+-- Graphviz offers).
 use Rattle.std.specs.Prelude.{ℕ, ◌+◌, ◌==◌, max, min, if◌then◌else◌, List, [], ◌∷◌, ◌++◌, length, take}
+use Rattle.std.specs.Prelude.{Option, Some, None}
 use Rattle.std.specs.Prelude.{replicate, reverse, slice_index, sum_by, codes, decimal}
 use Rattle.std.specs.List.{flat_map}
 use Rattle.asm_text.specs.Hex.{hex8}
@@ -12,22 +14,12 @@ use Rattle.walk_counts.specs.Counts.{capped}
 use Rattle.text_graph.specs.Labels.{name_by}
 use Rattle.text_graph.specs.Pieces.{shared}
 use Rattle.text_graph.specs.Scene.{Scene}
-use Rattle.text_graph.specs.Stretches.{between, calls_in, leaving, loops_of, stretch_ticks}
+use Rattle.text_graph.specs.Stretches.{between, caller_of, calls_in, is_call, leaving, loops_of}
+use Rattle.text_graph.specs.Stretches.{stretch_ticks}
 
 -- the name of a routine's cluster goes on with its calls
 abbrev pub call_names : List ℕ → List ℕ
 call_names calls = flat_map (λ a. codes "_" ++ hex8 a) calls
-
--- the cluster of a routine, by its calls and the address of the last of them
-abbrev pub routine_text : List ℕ → (last : ℕ) → List ℕ
-routine_text calls last =
-    codes "subgraph cluster_call"
-    ++ (call_names calls ++ (codes " { label=\"called at " ++ (hex8 last ++ codes "\"; ")))
-
--- the clusters of the first calls of a list: those with more than one number and at most another
-abbrev pub routines : List ℕ → (from to : ℕ) → List ℕ
-routines calls from to =
-    flat_map (λ d. routine_text (take (d + 1) calls) (slice_index calls d)) (between from to)
 
 -- the numbers of a loop's members
 abbrev pub members : Span → List ℕ
@@ -42,6 +34,48 @@ module _ (scene : Scene) where
   -- the label of the word at an address, else the address
   abbrev pub name_at : ℕ → List ℕ
   name_at a = name_by (scene.line a) a
+
+  -- ## Calls
+
+  -- the routine that begins with a number, by the name of its first word
+  abbrev pub routine_name : ℕ → List ℕ
+  routine_name n = name_at (place_address (place_in scene.flow scene.tree n)) ++ codes ", "
+
+  -- the routine into which an edge leads, if it leads into one
+  abbrev pub called_name : ℕ → List ℕ
+  called_name k =
+      if is_call scene.flow scene.tree (edge_at scene.tree.edges k)
+      then routine_name (edge_at scene.tree.edges k).to else []
+
+  -- the routines that a place calls: a stated call may have several
+  abbrev pub routine_names : (caller : ℕ) → List ℕ
+  routine_names caller = flat_map called_name (leaving scene.flow scene.tree caller)
+
+  -- what stands at the frame of a call: the routines by name, and where the call is
+  abbrev pub call_label : (caller at : ℕ) → List ℕ
+  call_label caller at =
+      codes "label=\"routine "
+      ++ (routine_names caller ++ (codes "called at " ++ (hex8 at ++ codes "\"; ")))
+
+  abbrev pub call_label_if : (caller : Option ℕ) → (at : ℕ) → List ℕ
+  call_label_if None at = []
+  call_label_if (Some caller) at = call_label caller at
+
+  -- at the innermost frame the node that begins with a routine says it
+  abbrev pub call_label_by : (first : ℕ) → (calls : List ℕ) → (depth : ℕ) → List ℕ
+  call_label_by first calls depth =
+      if depth + 1 == length calls
+      then call_label_if (caller_of scene.flow scene.tree first) (slice_index calls depth) else []
+
+  -- the cluster of a call around the node of a number, by the calls down to it
+  abbrev pub call_text : (first : ℕ) → (calls : List ℕ) → (depth : ℕ) → List ℕ
+  call_text first calls depth =
+      codes "subgraph cluster_call"
+      ++ (call_names (take (depth + 1) calls) ++ (codes " { " ++ call_label_by first calls depth))
+
+  -- those of the calls from one on, before another
+  abbrev pub call_texts : (first : ℕ) → (calls : List ℕ) → (from to : ℕ) → List ℕ
+  call_texts first calls from to = flat_map (call_text first calls) (between from to)
 
   -- ## Loops
 
@@ -87,9 +121,9 @@ module _ (scene : Scene) where
   -- the clusters inside so many calls: of the loops, the outermost first, each after the calls that it is
   -- inside of, and of the other calls
   abbrev pub clusters : (first : ℕ) → (calls : List ℕ) → (inside : ℕ) → List Span → List ℕ
-  clusters first calls inside [] = routines calls inside (length calls)
+  clusters first calls inside [] = call_texts first calls inside (length calls)
   clusters first calls inside (s ∷ loops) =
-      routines calls inside (depth_in calls s)
+      call_texts first calls inside (depth_in calls s)
       ++ (loop_text first s ++ clusters first calls (max inside (depth_in calls s)) loops)
 
   -- what is around the node of a number

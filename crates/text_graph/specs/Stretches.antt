@@ -2,10 +2,13 @@
 -- graph, is said by `Straight`.
 use Rattle.std.specs.Prelude.{◌≡◌, ℕ, ◌+◌, ◌-◌, ◌*◌, ◌<◌, ◌≤◌, Bool, ◌&&◌, ◌==◌, not, if◌then◌else◌}
 use Rattle.std.specs.Prelude.{List, length, count_by, nat_lt, sum_by, slice_index, slice_index_or}
-use Rattle.std.specs.Prelude.{All, Option, Some, None, false}
+use Rattle.std.specs.Prelude.{All, Option, Some, None, false, [], ◌∷◌, nat_eq}
+use Rattle.std.specs.BTreeMap.{BTreeMap, get}
 use Rattle.std.specs.Bool.{beq}
 use Rattle.std.specs.Cmp.Lexicographic.{pointwise}
-use Rattle.std.specs.List.{filter, list_all, range_with_len}
+use Rattle.std.specs.List.{filter, flat_map, list_all, range_with_len}
+use Rattle.std.specs.Map.{update_all}
+use Rattle.std.specs.Ordering.{nat_cmp}
 use Rattle.control_flow.specs.Flow.{Flow}
 use Rattle.control_flow.specs.Places.{place_calls}
 use Rattle.longest_walk.specs.Built.{step_at}
@@ -13,6 +16,7 @@ use Rattle.loop_bounds.specs.Tree.{IsTree, Tree, end_edge, first_edge, place_in}
 use Rattle.numbered_walks.specs.Index.{AreHolders, edge_at}
 use Rattle.numbered_walks.specs.Ordered.{is_in}
 use Rattle.numbered_walks.specs.declared.index.Index.{Index}
+use Rattle.numbered_walks.specs.declared.span.NumberedEdge.{NumberedEdge}
 use Rattle.numbered_walks.specs.declared.span.Span.{Span}
 use Rattle.walk_counts.specs.Counts.{capped}
 use Rattle.text_graph.specs.Chains.{begins, chain}
@@ -42,6 +46,21 @@ module _ (flow : Flow) (tree : Tree) where
   -- the loops that hold a number, the inner ones first
   abbrev pub loops_of : ℕ → List Span
   loops_of n = filter (λ s. is_in s n) tree.spans
+
+  -- ## Calls
+
+  -- an edge leads into a routine, to inside of more calls
+  abbrev pub is_call : NumberedEdge → Bool
+  is_call e = nat_lt (length (calls_in e.from)) (length (calls_in e.to))
+
+  -- a number of which a routine begins, and that of the place that calls it
+  abbrev pub calls_by : NumberedEdge → List (ℕ × ℕ)
+  calls_by e = if is_call e then (e.to, e.from) ∷ [] else []
+
+  -- from where the routine that begins with a number is called, if one begins with it: one place calls it so,
+  -- whose address is the last of the calls
+  abbrev pub caller_of : ℕ → Option ℕ
+  caller_of = update_all nat_eq (λ n. None) (flat_map calls_by tree.edges)
 
   -- ## Straight stretches
 
@@ -102,6 +121,10 @@ pub record AreTables (flow : Flow) (tree : Tree) (index : Index) (counted : List
   pub all_counted : length counted ≡ length flow.places + 1
   pub are_counted : (n : ℕ) → n ≤ length flow.places → slice_index counted n ≡ arrivals flow tree n
 
+-- by number where each routine is called
+abbrev pub AreCallers : Flow → Tree → BTreeMap ℕ ℕ → Type 0
+AreCallers flow tree callers = (n : ℕ) → get nat_cmp callers n ≡ caller_of flow tree n
+
 -- each member of these loops is a place
 abbrev pub AreInside : Flow → List Span → Type 0
 AreInside flow loops = All (λ s. s.last < length flow.places) loops
@@ -120,4 +143,5 @@ pub record AreBegins (flow : Flow) (tree : Tree) (begins : List Bool) : Type 0 w
 pub record CanDraw (d : Drawn) : Type 0 where
   pub tree : IsTree d.graph.now d.tree.now
   pub tables : AreTables d.graph.now d.tree.now d.index.now d.arrivals.now
+  pub callers : AreCallers d.graph.now d.tree.now d.callers.now
   pub counted : length d.counts.now ≡ length d.graph.now.edges

@@ -1,17 +1,19 @@
 ghost use Rattle.std.specs.Prelude.{◌≡◌, ◌≤◌, ◌<◌, ◌^◌, ◌++◌, OnOk, length, replicate};
-ghost use Rattle.text_graph.specs.Clusters.{call_names, closed, clusters, depth_in, loop_label, loop_taken};
-ghost use Rattle.text_graph.specs.Clusters.{loop_label_by};
-ghost use Rattle.text_graph.specs.Clusters.{loop_text, name_at, opened, routine_text, routines};
+ghost use Rattle.numbered_walks.specs.Index.{edge_at};
+ghost use Rattle.text_graph.specs.Clusters.{call_label, call_label_by, call_label_if, call_names, call_text};
+ghost use Rattle.text_graph.specs.Clusters.{call_texts, called_name, closed, clusters, depth_in, loop_label};
+ghost use Rattle.text_graph.specs.Clusters.{loop_label_by, loop_taken, loop_text, name_at, opened};
+ghost use Rattle.text_graph.specs.Clusters.{routine_name, routine_names};
 ghost use Rattle.text_graph.specs.Labels.{label_or_address};
 ghost use Rattle.text_graph.specs.Parts.{scene_of};
-ghost use Rattle.text_graph.specs.Stretches.{AreInside, CanDraw};
+ghost use Rattle.text_graph.specs.Stretches.{AreInside, CanDraw, caller_of};
 
 use crate::loops::{loop_ticks, turns};
 use crate::pieces::{put_address, put_escaped, put_shared};
 use crate::stretches::{calls_in, loops_of};
-use crate::tables::Drawn;
-use loop_bounds::place_in;
-use numbered_walks::Span;
+use crate::tables::{Drawn, caller_at, is_call};
+use loop_bounds::{edge_range_in, place_in};
+use numbered_walks::{NumberedEdge, Span};
 use std::alloc::AllocError;
 use text_rows::{put, put_decimal};
 
@@ -46,24 +48,159 @@ fn put_call_names(out: &mut Vec<u8>, calls: &[u32]) -> Result<(), AllocError>
     Ok(())
 }
 
-// Opens the cluster of a routine.
-fn put_routine(out: &mut Vec<u8>, calls: &[u32], last: u32) -> Result<(), AllocError>
-    ensures { OnOk result (out.new.items ≡ out.old.items ++ routine_text calls.now last) }
+fn edge_at(drawn: Drawn<'_, '_>, number: usize) -> NumberedEdge
+    requires drawn { CanDraw drawn }
+    requires known { number < length drawn.graph.now.edges }
+    ensures { result ≡ edge_at drawn.entry.tree.now.edges number }
 {
-    put(out, b"subgraph cluster_call")?;
-    put_call_names(out, calls)?;
-    put(out, b" { label=\"called at ")?;
-    put_address(out, last)?;
+    drawn.tree.edges()[number]
+}
+
+// Adds the name of the routine that begins with a number.
+fn put_routine_name(
+    out: &mut Vec<u8>,
+    drawn: Drawn<'_, '_>,
+    number: usize,
+) -> Result<(), AllocError>
+    ensures { OnOk result (out.new.items ≡ out.old.items ++ routine_name (scene_of drawn.entry) number) }
+{
+    put_name_at(
+        out,
+        drawn,
+        place_in(drawn.graph, drawn.tree, number).address(),
+    )?;
+    put(out, b", ")
+}
+
+// Adds the name of the routine into which an edge leads, if it leads into one.
+fn put_called_name(out: &mut Vec<u8>, drawn: Drawn<'_, '_>, number: usize) -> Result<(), AllocError>
+    requires drawn { CanDraw drawn }
+    requires known { number < length drawn.graph.now.edges }
+    ensures { OnOk result (out.new.items ≡ out.old.items ++ called_name (scene_of drawn.entry) number) }
+{
+    let edge = edge_at(drawn, number);
+    if is_call(drawn.graph, drawn.tree, edge) {
+        return put_routine_name(out, drawn, edge.to);
+    }
+    Ok(())
+}
+
+// Adds the names of the routines that a place calls.
+fn put_routine_names(
+    out: &mut Vec<u8>,
+    drawn: Drawn<'_, '_>,
+    caller: usize,
+) -> Result<(), AllocError>
+    requires drawn { CanDraw drawn }
+    requires known { caller < length drawn.graph.now.places }
+    ensures { OnOk result
+        (out.new.items ≡ out.old.items ++ routine_names (scene_of drawn.entry) caller) }
+{
+    let (first, end) = edge_range_in(drawn.graph, drawn.tree, caller);
+    for number in first..end {
+        put_called_name(out, drawn, number)?;
+    }
+    Ok(())
+}
+
+// Adds what stands at the frame of a call.
+fn put_call_label(
+    out: &mut Vec<u8>,
+    drawn: Drawn<'_, '_>,
+    caller: usize,
+    at: u32,
+) -> Result<(), AllocError>
+    requires drawn { CanDraw drawn }
+    requires known { caller < length drawn.graph.now.places }
+    ensures { OnOk result
+        (out.new.items ≡ out.old.items ++ call_label (scene_of drawn.entry) caller at) }
+{
+    put(out, b"label=\"routine ")?;
+    put_routine_names(out, drawn, caller)?;
+    put(out, b"called at ")?;
+    put_address(out, at)?;
     put(out, b"\"; ")
 }
 
-// Opens the clusters of the first calls, those with more than one number and at most another.
-fn put_routines(out: &mut Vec<u8>, calls: &[u32], from: usize, to: usize) -> Result<(), AllocError>
-    requires { to ≤ length calls.now }
-    ensures { OnOk result (out.new.items ≡ out.old.items ++ routines calls.now from to) }
+// Adds it where a routine begins with the number.
+fn put_call_label_if(
+    out: &mut Vec<u8>,
+    drawn: Drawn<'_, '_>,
+    first: usize,
+    at: u32,
+) -> Result<(), AllocError>
+    requires drawn { CanDraw drawn }
+    ensures { OnOk result
+        (out.new.items ≡ out.old.items ++ call_label_if (scene_of drawn.entry)
+        (caller_of drawn.entry.graph.now drawn.entry.tree.now first) at) }
+{
+    match caller_at(drawn.callers, first) {
+        Some(caller) => put_call_label(out, drawn, caller, at),
+        None => Ok(()),
+    }
+}
+
+// A node, by its first number and the calls around it.
+#[derive(Clone, Copy)]
+struct Node<'a> {
+    first: usize,
+    calls: &'a [u32],
+}
+
+// Adds it at the innermost frame.
+fn put_call_label_by(
+    out: &mut Vec<u8>,
+    drawn: Drawn<'_, '_>,
+    node: Node<'_>,
+    depth: usize,
+) -> Result<(), AllocError>
+    requires drawn { CanDraw drawn }
+    requires inside { depth < length node.calls.now }
+    ensures { OnOk result
+        (out.new.items ≡ out.old.items
+        ++ call_label_by (scene_of drawn.entry) node.entry.first node.entry.calls.now depth) }
+{
+    if depth + 1 == node.calls.len() {
+        return put_call_label_if(out, drawn, node.first, node.calls[depth]);
+    }
+    Ok(())
+}
+
+// Opens the cluster of a call around a node.
+fn put_call(
+    out: &mut Vec<u8>,
+    drawn: Drawn<'_, '_>,
+    node: Node<'_>,
+    depth: usize,
+) -> Result<(), AllocError>
+    requires drawn { CanDraw drawn }
+    requires inside { depth < length node.calls.now }
+    ensures { OnOk result
+        (out.new.items ≡ out.old.items
+        ++ call_text (scene_of drawn.entry) node.entry.first node.entry.calls.now depth) }
+{
+    put(out, b"subgraph cluster_call")?;
+    put_call_names(out, &node.calls[..depth + 1])?;
+    put(out, b" { ")?;
+    put_call_label_by(out, drawn, node, depth)
+}
+
+// Opens the clusters of the calls around a node, from one on, before another.
+fn put_calls(
+    out: &mut Vec<u8>,
+    drawn: Drawn<'_, '_>,
+    node: Node<'_>,
+    from: usize,
+    to: usize,
+) -> Result<(), AllocError>
+    requires drawn { CanDraw drawn }
+    requires inside { to ≤ length node.calls.now }
+    ensures { OnOk result
+        (out.new.items ≡ out.old.items
+        ++ call_texts (scene_of drawn.entry) node.entry.first node.entry.calls.now from to) }
 {
     for depth in from..to {
-        put_routine(out, &calls[..depth + 1], calls[depth])?;
+        put_call(out, drawn, node, depth)?;
     }
     Ok(())
 }
@@ -145,27 +282,27 @@ fn put_loop(
     put_loop_label_by(out, drawn, first, span)
 }
 
-// Opens the clusters of calls and of loops around the node that begins with a number, the outermost first.
+// Opens the clusters of calls and of loops around a node, the outermost first.
 fn put_clusters(
     out: &mut Vec<u8>,
     drawn: Drawn<'_, '_>,
-    first: usize,
-    calls: &[u32],
+    node: Node<'_>,
     loops: &[Span],
 ) -> Result<(), AllocError>
     requires drawn { CanDraw drawn }
     requires inside { AreInside drawn.graph.now loops.now }
     ensures { OnOk result
-        (out.new.items ≡ out.old.items ++ clusters (scene_of drawn.entry) first calls.now 0 loops.now) }
+        (out.new.items ≡ out.old.items
+        ++ clusters (scene_of drawn.entry) node.entry.first node.entry.calls.now 0 loops.now) }
 {
     let mut inside = 0;
     for span in loops {
-        let depth = depth_in(drawn, calls, span);
-        put_routines(out, calls, inside, depth)?;
-        put_loop(out, drawn, first, span)?;
+        let depth = depth_in(drawn, node.calls, span);
+        put_calls(out, drawn, node, inside, depth)?;
+        put_loop(out, drawn, node.first, span)?;
         inside = inside.max(depth);
     }
-    put_routines(out, calls, inside, calls.len())
+    put_calls(out, drawn, node, inside, node.calls.len())
 }
 
 /// Opens the clusters around the node of a number.
@@ -180,7 +317,12 @@ pub(crate) fn put_opened(
 {
     let mut loops = Vec::from_slice(*out.allocator(), loops_of(drawn, number))?;
     loops.reverse();
-    put_clusters(out, drawn, number, calls_in(drawn, number).items(), &loops)
+    let calls = calls_in(drawn, number);
+    let node = Node {
+        first: number,
+        calls: calls.items(),
+    };
+    put_clusters(out, drawn, node, &loops)
 }
 
 // Closes so many clusters.

@@ -10,7 +10,7 @@ use crate::labels::place_labels;
 use crate::nodes::put_stretch;
 use crate::pieces::put_name;
 use crate::stretches::{begins, passes, stretch_from};
-use crate::tables::{Drawn, arrivals};
+use crate::tables::{Drawn, arrivals, callers};
 use longest_walk::Longest;
 use loop_bounds::Handler;
 use numbered_walks::Index;
@@ -111,9 +111,10 @@ fn drawn_text(alloc: Global, drawn: Drawn<'_, '_>, begins: &[bool]) -> Result<Ve
 /// stretch, with the address of each of its places and its line without the comment, how often the walk
 /// passes it, its ticks and their share of the bound, by which it is filled; the edges between stretches,
 /// with their ticks and how often the walk takes them; and Exit. Nodes are in frames: one for each list of
-/// calls, with the address of the last, and one for each instance of a loop, with the header's name, how
-/// often the walk goes back to it, its ticks and their share. Bold is what the walk takes, grey what it does
-/// not, or left out where the path alone is drawn. Numbers are capped at 2^64 - 1.
+/// calls, with the names of the routines that the last of them calls and its address, and one for each
+/// instance of a loop, with the header's name, how often the walk goes back to it, its ticks and their share.
+/// Bold is what the walk takes, grey what it does not, or left out where the path alone is drawn. Numbers are
+/// capped at 2^64 - 1.
 ///
 /// A stretch goes on from a place to the next where one edge alone leaves the place, no other leads to the
 /// next, which is not the entry, and both are inside the same calls and loops.
@@ -139,6 +140,7 @@ pub fn drawing(
     let counts = edge_counts(alloc, graph, &longest.walk)?;
     let index = Index::of(alloc, tree.edges(), tree.spans(), graph.places().len())?;
     let arrivals = arrivals(alloc, graph, tree)?;
+    let callers = callers(alloc, graph, tree)?;
     let drawn = Drawn {
         graph,
         tree,
@@ -147,6 +149,7 @@ pub fn drawing(
         lines: &lines,
         index: &index,
         arrivals: &arrivals,
+        callers: &callers,
         bound: longest.bound,
         extent,
     };

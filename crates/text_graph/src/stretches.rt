@@ -5,9 +5,9 @@ ghost use Rattle.text_graph.specs.Stretches.{AreBegins, AreNumbers, CanDraw, are
 ghost use Rattle.text_graph.specs.Stretches.{edge_ticks, loops_of, next_of, only_way, passes, stretch_from};
 ghost use Rattle.text_graph.specs.Stretches.{stretch_ticks, ticks};
 
-use crate::tables::Drawn;
-use control_flow::{Calls, Place};
-use loop_bounds::{edge_range_in, place_in};
+use crate::tables::{self, Drawn};
+use control_flow::Calls;
+use loop_bounds::edge_range_in;
 use numbered_walks::Span;
 use std::alloc::{AllocError, Global};
 use walk_counts::{capped_product, capped_sum, is_in};
@@ -16,10 +16,7 @@ use walk_counts::{capped_product, capped_sum, is_in};
 pub(crate) fn calls_in(drawn: Drawn<'_, '_>, number: usize) -> Calls
     ensures { result ≡ calls_in drawn.entry.graph.now drawn.entry.tree.now number }
 {
-    match place_in(drawn.graph, drawn.tree, number) {
-        Place::At(calls, _) => calls,
-        Place::Exit => Calls::new(),
-    }
+    tables::calls_in(drawn.graph, drawn.tree, number)
 }
 
 /// The loops that hold a number, the inner ones first.

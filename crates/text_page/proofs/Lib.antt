@@ -1,3 +1,4 @@
+mod FoldLaws
 mod HtmlLaws
 mod LineLaws
 mod MadeLaws

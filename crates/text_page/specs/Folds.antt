@@ -1,5 +1,6 @@
 -- What can be folded on a page, and which lines the page then has.
-use Rattle.std.specs.Prelude.{ℕ, ◌-◌, ◌==◌, ◌&&◌, nat_le, not, Bool, true, false, if◌then◌else◌, List, []}
+use Rattle.std.specs.Prelude.{ℕ, zero, suc, ◌-◌, ◌==◌, ◌&&◌, nat_le, not, Bool, true, false}
+use Rattle.std.specs.Prelude.{if◌then◌else◌, List, []}
 use Rattle.std.specs.Prelude.{◌∷◌, ◌++◌, ◌||◌, length, map, nat_eq, take, replicate, sum_by}
 use Rattle.std.specs.Prelude.{Option, Some, None, option_map}
 use Rattle.std.specs.List.{list_all, prefix_len}
@@ -89,17 +90,20 @@ module _ (parts : Parts) where
   abbrev pub kept : ℕ → List Fold → List Fold
   kept at nest = take (kept_count at nest) nest
 
-  -- the rows that are folded with the first, up to one that the stretch does not hold, and their ticks
-  abbrev pub folded : Fold → List TableRow → List TableRow
-  folded f rows = take (prefix_len (λ r. holds r.at f) rows) rows
+  -- the rows that the innermost of the open stretches hides where it begins at the first row: that row, and
+  -- the rows behind it up to one that it, or one around it, does not hold
+  abbrev pub folded : (nest : List Fold) → List TableRow → List TableRow
+  folded nest [] = []
+  folded nest (r ∷ rows) = r ∷ take (prefix_len (λ later. list_all (holds later.at) nest) rows) rows
 
-  abbrev pub fold_ticks : Fold → List TableRow → ℕ
-  fold_ticks f rows = rows_ticks (folded f rows)
+  -- their ticks, of a stretch that begins inside of those that are open
+  abbrev pub fold_ticks : (nest : List Fold) → Fold → List TableRow → ℕ
+  fold_ticks nest f rows = rows_ticks (folded (nest ++ f ∷ []) rows)
 
   -- where a stretch begins before these rows
   abbrev pub begun : List Fold → Option Fold → List TableRow → List PageLine
   begun nest None rows = []
-  begun nest (Some f) rows = if fits f nest then Begun f (fold_ticks f rows) ∷ [] else []
+  begun nest (Some f) rows = if fits f nest then Begun f (fold_ticks nest f rows) ∷ [] else []
 
   -- those that are open at an address, first with its routine alone
   abbrev pub in_routine : ℕ → List Fold → List Fold
@@ -119,3 +123,14 @@ module _ (parts : Parts) where
   lines_from nest [] = replicate (length nest) Ended
   lines_from nest (r ∷ rows) =
       borders r.at nest (r ∷ rows) ++ (Row r ∷ lines_from (in_loop r.at nest) rows)
+
+-- ## What lines show
+
+-- The rows between the beginning of a stretch and its end, by the lines behind the beginning, while so many
+-- stretches more are open.
+abbrev pub rows_inside : (more : ℕ) → List PageLine → List TableRow
+rows_inside more [] = []
+rows_inside more (Begun f ticks ∷ lines) = rows_inside (suc more) lines
+rows_inside more (Row r ∷ lines) = r ∷ rows_inside more lines
+rows_inside zero (Ended ∷ lines) = []
+rows_inside (suc more) (Ended ∷ lines) = rows_inside more lines

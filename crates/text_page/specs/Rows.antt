@@ -202,8 +202,8 @@ turns_text (part.Loop bound) = codes ", bound " ++ decimal bound
 abbrev pub ticks_text : ℕ → List ℕ
 ticks_text n = decimal n ++ (if n == 1 then codes " tick, " else codes " ticks, ")
 
--- what stands for a stretch that is folded: what it is, its name, the bound of a loop, and the ticks of its
--- rows with their share of the bound
+-- what stands for a stretch that is folded: what it is, its name, the bound of a loop, and the ticks of the
+-- rows that it hides, with their share of the bound
 abbrev pub summary : Noted → (bound : ℕ) → Fold → (ticks : ℕ) → List ℕ
 summary notes bound f ticks =
     part_text f.part

@@ -15,4 +15,4 @@ mod page_lines;
 mod summary;
 
 pub use document::page;
-pub use law::escaped_texts_have_no_marks;
+pub use law::{escaped_texts_have_no_marks, fold_ticks_are_of_hidden_rows};

@@ -1,9 +1,9 @@
 //! The lines of a page: its rows, and where stretches that can be folded begin and end.
 
 ghost use Rattle.std.specs.Prelude.{◌≡◌, ◌≤◌, ◌++◌, [], IfOk, OnOk, length, replicate};
-ghost use Rattle.std.specs.List.{prefix_len};
+ghost use Rattle.std.specs.List.{list_all, prefix_len};
 ghost use Rattle.text_page.specs.Folding.{parts_in};
-ghost use Rattle.text_page.specs.Folds.{begun, borders, fits, fold_ticks, holds, in_loop, kept_count};
+ghost use Rattle.text_page.specs.Folds.{begun, borders, fits, folded, holds, in_loop, kept_count};
 ghost use Rattle.text_page.specs.Folds.{lines_from, opened, row_ticks, rows_ticks};
 ghost use Rattle.text_page.specs.declared.page_lines.PageLine.TheVariants.{Ended};
 
@@ -15,7 +15,7 @@ use walk_counts::capped_sum;
 /// A line of a page.
 #[derive(Clone, Copy)]
 pub(crate) enum PageLine<'a> {
-    /// A stretch begins, with the ticks of its rows.
+    /// A stretch begins, with the ticks of the rows that it hides.
     Begun(Fold, u64),
     Row(TableRow<'a>),
     /// The innermost stretch ends.
@@ -59,21 +59,32 @@ fn rows_ticks(rows: &[TableRow<'_>]) -> u64
     ticks
 }
 
-// How many rows are folded with the first.
-fn folded_count(foldable: &Foldable, fold: Fold, rows: &[TableRow<'_>]) -> usize
-    ensures count { result ≡ prefix_len (λ r. holds (parts_in foldable.now) r.at fold) rows.now }
+// Whether all open stretches hold a row.
+fn all_hold(foldable: &Foldable, nest: &[Fold], row: &TableRow<'_>) -> bool
+    ensures { result ≡ list_all (holds (parts_in foldable.now) row.now.at) nest.now }
+{
+    nest.iter().all(|fold| foldable.holds(row.at, *fold))
+}
+
+// How many rows all open stretches hold, up to the first that one does not.
+fn held_count(foldable: &Foldable, nest: &[Fold], rows: &[TableRow<'_>]) -> usize
+    ensures count { result
+        ≡ prefix_len (λ r. list_all (holds (parts_in foldable.now) r.at) nest.now) rows.now }
     ensures within { result ≤ length rows.now }
 {
     rows.iter()
-        .take_while(|row| foldable.holds(row.at, fold))
+        .take_while(|row| all_hold(foldable, nest, row))
         .count()
 }
 
-// Their ticks.
-fn fold_ticks(foldable: &Foldable, fold: Fold, rows: &[TableRow<'_>]) -> u64
-    ensures { result ≡ fold_ticks (parts_in foldable.now) fold rows.now }
+// The ticks of the rows that the innermost stretch hides, where it begins at the first.
+fn fold_ticks(foldable: &Foldable, nest: &[Fold], rows: &[TableRow<'_>]) -> u64
+    ensures { result ≡ rows_ticks (folded (parts_in foldable.now) nest.now rows.now) }
 {
-    rows_ticks(&rows[..folded_count(foldable, fold, rows)])
+    match rows {
+        [] => 0,
+        [_, later @ ..] => rows_ticks(&rows[..held_count(foldable, nest, later) + 1]),
+    }
 }
 
 // Ends so many stretches.
@@ -102,8 +113,8 @@ fn put_begun(
         return Ok(());
     };
     if fits(fold, nest) {
-        lines.push(PageLine::Begun(fold, fold_ticks(foldable, fold, rows)))?;
         nest.push(fold)?;
+        lines.push(PageLine::Begun(fold, fold_ticks(foldable, nest, rows)))?;
     }
     Ok(())
 }

@@ -71,7 +71,7 @@ fn put_summary(
     put_share(out, ticks, bound)
 }
 
-/// Begins a stretch whose rows take so many ticks of the bound. `AllocError`: an allocation failed.
+/// Begins a stretch that hides rows of so many ticks of the bound. `AllocError`: an allocation failed.
 pub(crate) fn put_begin(
     out: &mut Vec<u8>,
     notes: &Notes<'_, '_>,

@@ -3,3 +3,4 @@ pub mod OrderLemmas
 pub mod LinkLemmas
 pub mod FlagLemmas
 pub mod TellLemmas
+mod RunLemmas

@@ -38,7 +38,8 @@ pub record AreContradicted (words : Words) (walk : List Edge) (named : List ℕ)
 
 abbrev pub contradiction_heading : List ℕ
 contradiction_heading =
-    codes "\nNo run takes this path, as these conditions exclude one another (the bound is safe):\n"
+    codes "\nWithout visits no run takes this path, as these conditions exclude one another "
+    ++ codes "(the bound is safe):\n"
 
 -- the rows of exactly these words under the heading; nothing where there are none
 abbrev pub IsContradictionSection : Source → Words → (walk : List Edge) → (text : List ℕ) → Type 0

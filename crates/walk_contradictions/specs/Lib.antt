@@ -1,3 +1,4 @@
 pub mod Outcomes
 pub mod Contradictions
 pub mod Passing
+pub mod NotTaken

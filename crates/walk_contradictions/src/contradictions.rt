@@ -19,7 +19,8 @@ use text_explained::named_rows;
 use text_rows::section;
 
 const HEADING: &[u8] =
-    b"\nNo run takes this path, as these conditions exclude one another (the bound is safe):\n";
+    b"\nWithout visits no run takes this path, as these conditions exclude one another \
+    (the bound is safe):\n";
 
 // The addresses of the words.
 fn contradicted(

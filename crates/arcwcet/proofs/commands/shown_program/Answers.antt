@@ -2,7 +2,7 @@ use Rattle.std.proofs.Common.{◌≡◌, ◌∙◌, ℕ, true, false, true≢fal
 use Rattle.command_line.specs.Line.{Asked}
 use Rattle.command_line.specs.Rows.{asked_of}
 use Rattle.progress.specs.Watched.{inner}
-use Rattle.arcwcet.specs.Announced.{reads_announced, writes_announced}
+use Rattle.arcwcet.specs.Announced.{reads_announced, shows_lines, writes_announced}
 use Rattle.arcwcet.specs.Refusals.{Says}
 use Rattle.arcwcet.specs.Run.{RunsAsked}
 use Rattle.arcwcet.proofs.RunLemmas.{asked_out_of_memory, says_line}
@@ -35,25 +35,25 @@ returns-in-Err-clause-unshown g c = λ asked wanted unshown.
           )
     ]
 
-pub returns-then-asked-clause-shown : goal.returns-then-asked-clause-shown
-returns-then-asked-clause-shown g c = λ asked wanted shown.
+pub returns-then-shown-clause-shown : goal.returns-then-shown-clause-shown
+returns-then-shown-clause-shown g c = λ asked wanted shown.
     let both : Some (asked_of c.in-Ok.asked) ≡ Some asked = sym c.in-Ok.ensures.read ∙ wanted in
     let same : asked_of c.in-Ok.asked ≡ asked = cc both in
     let reads = reads_announced g.L.Output.taken g.L.Output.failures g.S.Store.read_gives in
     let writes = writes_announced g.S.Store.write_gives in
     subst (λ (a : Asked). RunsAsked reads writes g.I.Input.remaining g.I.Input.failures (inner g.O.Output.taken) (inner g.O.Output.failures) (Says g.E.Output.taken g.E.Output.failures a c.args.err.now c.obey.new.err) a c.args.store.now c.obey.new.store c.args.input.now c.obey.new.input c.args.out.now c.obey.new.out c.obey.result) same c.obey.ensures.done
 
-pub returns-then-asked-clause-unshown : goal.returns-then-asked-clause-unshown
-returns-then-asked-clause-unshown g c = λ asked wanted unshown.
+pub returns-then-shown-clause-unshown : goal.returns-then-shown-clause-unshown
+returns-then-shown-clause-unshown g c = λ asked wanted unshown.
     let both : Some (asked_of c.in-Ok.asked) ≡ Some asked = sym c.in-Ok.ensures.read ∙ wanted in
     let same : asked_of c.in-Ok.asked ≡ asked = cc both in
-    absurd (true≢false (sym c.if-asked.true ∙ ap (λ (a : Asked). a.progress) same ∙ unshown))
+    absurd (true≢false (sym c.if-shown.true ∙ c.shows_lines-shown.ensures ∙ ap (λ (a : Asked). shows_lines a c.args.store.now) same ∙ unshown))
 
 pub returns-clause-shown : goal.returns-clause-shown
 returns-clause-shown g c = λ asked wanted shown.
     let both : Some (asked_of c.in-Ok.asked) ≡ Some asked = sym c.in-Ok.ensures.read ∙ wanted in
     let same : asked_of c.in-Ok.asked ≡ asked = cc both in
-    absurd (true≢false (sym shown ∙ sym (ap (λ (a : Asked). a.progress) same) ∙ c.if-asked.false))
+    absurd (true≢false (sym shown ∙ sym (ap (λ (a : Asked). shows_lines a c.args.store.now) same) ∙ sym c.shows_lines-shown.ensures ∙ c.if-shown.false))
 
 pub returns-clause-unshown : goal.returns-clause-unshown
 returns-clause-unshown g c = λ asked wanted unshown.

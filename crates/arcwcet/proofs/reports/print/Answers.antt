@@ -1,4 +1,4 @@
-use Rattle.std.proofs.Common.{◌∙◌, [], List, ℕ, ap, subst}
+use Rattle.std.proofs.Common.{◌∙◌, List, ℕ, ap, subst}
 use Rattle.handlers.specs.Answers.{Answers}
 use Rattle.handlers.specs.Placing.{IsRunRefused, IsRunnable}
 use Rattle.handlers.specs.Refusal.{fault_only}
@@ -15,7 +15,6 @@ use Rattle.explain_reports.specs.ExplainReport.{IsExplainReport}
 use Rattle.explain_reports.specs.Verdict.{IsVerdictReport}
 use Rattle.follow_reports.specs.FollowReport.{IsFollowRefused, IsFollowReport, IsFollowable}
 use Rattle.follow_reports.specs.FollowVisits.{AreFollowable, AreNotFollowed, IsFollowVisitsReport}
-use Rattle.justify_reports.specs.JustifyReport.{IsJustifyReport}
 use Rattle.command_line.specs.Rows.{asked_of}
 use Rattle.response_reports.specs.RespondReport.{IsAnswerable, IsRespondRefused, IsRespondReport}
 use Rattle.arcwcet.specs.Kept.{inputs_lent}
@@ -168,10 +167,8 @@ returns-in-Visits g c =
 pub returns-in-Justify : goal.returns-in-Justify
 unfolding report_by
 returns-in-Justify g c =
-    let i = inputs_lent c.args.job.inputs in
     rw (c.in-Justify.is)
-    (answered_judged g.O.Output.taken g.O.Output.failures c.args.out.now c.print_justified.new.out i.profile (IsJustifyReport i.source i.second [] c.args.job.request.now.all) (IsAccepted i.source i.second) (IsRefused i.source i.second)
-    (fault_only c.print_justified.result) c.print_justified.ensures)
+    c.print_given.ensures
 
 pub returns-in-Follow : goal.returns-in-Follow
 unfolding report_by

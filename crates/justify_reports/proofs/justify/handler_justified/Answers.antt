@@ -4,7 +4,9 @@ use Rattle.control_flow.specs.Graph.{IsFlowGraph}
 use Rattle.image.specs.Image.{Words}
 use Rattle.handlers.specs.Report.{BeforeOutput, IsRefused}
 use Rattle.handlers.proofs.HandlerLemmas.{refused_as}
+use Rattle.known_places.specs.Destinations.{AreDestinations}
 use Rattle.known_places.specs.OnTrust.{Justifies}
+use Rattle.known_places.specs.declared.destination.Destination.{Destination}
 use Rattle.justify_reports.specs.JustifyReport.{IsJustifyText, is_enough}
 use Rattle.justify_reports.specs.Rows.{AreStatedRows}
 use Rattle.justify_reports.specs.declared.rows.Row.{Row}
@@ -17,8 +19,8 @@ returns-in_err-found-clause-fault c =
     refused_as c.from_residual.result c.in_err-found.field-0.0 (BeforeOutput (IsRefused j.source.now j.statement.now c.args.profile.now)) c.from_residual.ensures.1
     (c.in_err-found.ensures.fault j.source.now j.statement.now c.args.profile.now c.requires.loops)
 
-pub left_of-requires-clause-graph : goal.left_of-requires-clause-graph
-left_of-requires-clause-graph c =
+pub seen_of-requires-clause-graph : goal.seen_of-requires-clause-graph
+seen_of-requires-clause-graph c =
     let j = c.args.justified in
     let h = c.args.handler.now in
     subst (λ (w : Words). IsFlowGraph w h.statement h.graph.profile h.graph) (sym c.requires.image)
@@ -30,11 +32,15 @@ returns-clause-shows c =
     let h = c.args.handler.now in
     let found = c.in_ok-found.found in
     let read = c.args.said.now in
-    let left = c.in_ok-left.left in
+    let seen = c.in_ok-seen.seen in
+    let left = seen.left in
+    let goes = seen.destinations.items in
     let rows = c.in_ok-rows.rows.items in
     justified j.source.now j.statement.now c.args.profile.now read c.requires.said h.statement h.graph h.tree c.requires.loops c.requires.tree c.run_law.ensures
-    j.given.now j.all c.is_enough.result left rows found c.in_ok-text.text.items c.in_ok-found.ensures.longest c.in_ok-found.ensures.allowed
-    (subst (λ (w : Words). IfSome left (Justifies w h.statement h.graph j.given.now)) c.requires.image c.in_ok-left.ensures)
-    (subst (λ (w : Words). AreStatedRows w h.statement h.graph left rows) c.requires.image c.in_ok-rows.ensures)
-    (subst (λ (rs : List Row). IsJustifyText read j.given.now left rs found.bound c.args.profile.now.burst c.in_ok-text.text.items) c.deref.ensures.value c.in_ok-text.ensures)
-    (c.is_enough.ensures ∙ ap (is_enough j.all) c.deref-2.ensures.value)
+    j.given.now j.all c.is_enough.result left goes rows found c.in_ok-text.text.items c.in_ok-found.ensures.longest c.in_ok-found.ensures.allowed
+    (subst (λ (w : Words). IfSome left (Justifies w h.statement h.graph j.given.now)) c.requires.image c.in_ok-seen.ensures.left)
+    (subst (λ (w : Words). AreDestinations w h.statement h.graph h.tree j.given.now goes) c.requires.image c.in_ok-seen.ensures.goes)
+    (subst (λ (w : Words). AreStatedRows w h.statement h.graph h.tree left goes rows) c.requires.image
+    (subst (λ (ds : List Destination). AreStatedRows h.image.now h.statement h.graph h.tree left ds rows) c.deref.ensures.value c.in_ok-rows.ensures))
+    (subst (λ (rs : List Row). IsJustifyText read j.given.now left rs found.bound c.args.profile.now.burst c.in_ok-text.text.items) c.deref-2.ensures.value c.in_ok-text.ensures)
+    (c.is_enough.ensures ∙ ap (is_enough j.all) c.deref-3.ensures.value)

@@ -46,10 +46,10 @@ pub begins-requires : goal.begins-requires
 begins-requires c = record {
   drawn =
       can_draw _ (length c.places.result.now) c.edges.result.now c.spans.result.now c.in_ok-counts.counts.items c.in_ok-arrivals.arrivals.items c.requires
-      (ap length c.places.ensures.value) c.spans.ensures c.in_ok-index.ensures c.deref-3.ensures.value c.in_ok-arrivals.ensures c.deref.ensures.value c.in_ok-counts.ensures.counts.whole;
+      (ap length c.places.ensures.value) c.spans.ensures c.in_ok-index.ensures c.deref-3.ensures.value c.in_ok-arrivals.ensures c.deref.ensures.value c.in_ok-counts.ensures.counts.whole c.in_ok-callers.ensures;
 }
 
 pub drawn_text-requires-clause-drawn : goal.drawn_text-requires-clause-drawn
 drawn_text-requires-clause-drawn c =
     can_draw _ (length c.places.result.now) c.edges.result.now c.spans.result.now c.in_ok-counts.counts.items c.in_ok-arrivals.arrivals.items c.requires
-    (ap length c.places.ensures.value) c.spans.ensures c.in_ok-index.ensures c.deref-3.ensures.value c.in_ok-arrivals.ensures c.deref.ensures.value c.in_ok-counts.ensures.counts.whole
+    (ap length c.places.ensures.value) c.spans.ensures c.in_ok-index.ensures c.deref-3.ensures.value c.in_ok-arrivals.ensures c.deref.ensures.value c.in_ok-counts.ensures.counts.whole c.in_ok-callers.ensures
