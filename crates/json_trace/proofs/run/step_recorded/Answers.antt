@@ -11,7 +11,7 @@ returns-clause-step c =
     let passed : c.passed_in.result ≡ ticks_passed now.profile.burst c.args.input stepped =
     c.passed_in.ensures.passed
     ∙ ap (λ (p : Profile). ticks_passed p.burst c.args.input stepped) c.profile-profile.ensures in
-    let elapsed = ap (λ (t : ℕ). c.args.ran.now.elapsed + t) passed in
+    let elapsed = ap (λ (t : ℕ). c.args.ran.now.elapsed + t) (c.from.ensures ∙ passed) in
     let before = c.words_of-before.ensures ∙ c.registers.ensures in
     let moved = sym (c.planned-transfers.ensures c.args.input stepped traced.new.self traced.ensures.step) in (
       traced.ensures.step,
