@@ -101,6 +101,8 @@ def ended_early(outcome):
         return True
     if re.fullmatch(rb"step \d+, [0-9A-F]+(, line \d+)?: .+\n|never at the entry, .+\n", outcome.out):
         return True
+    if re.search(rb'^\{"steps":.*"stopped":"\w+","next":"[0-9A-F]{8}"\}\n\Z', outcome.out, re.M):
+        return True
     return re.search(rb"^stopped \w+ at [0-9A-F]+\nticks \d+ elapsed \d+\n\Z", outcome.out, re.M) is not None
 
 

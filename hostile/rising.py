@@ -36,7 +36,7 @@ def options(words):
     words.add_argument("--program", type=pathlib.Path, default=PROGRAM, help="the built program")
     words = words.parse_args()
     if not words.program.is_file():
-        sys.exit(f"{words.program} is not built: (cd crates/arcwcet_cli && rt run)")
+        sys.exit(f"{words.program} is not built: ./build")
     return words
 
 

@@ -224,6 +224,7 @@ def priced(bench, words, files):
         command(bench, f"run {words} machine.toml", machine),
         command(bench, f"run --to 0x8004 {words} machine.toml", machine),
         command(bench, f"trace {words} machine.toml", machine),
+        command(bench, f"trace --json {words} machine.toml", machine),
         command(bench, f"debug {words} machine.toml", machine, SESSION),
     ]
 

@@ -15,6 +15,8 @@ mod known;
 #[cfg(test)]
 mod nesting;
 #[cfg(test)]
+mod outside;
+#[cfg(test)]
 mod prices_and_chips;
 #[cfg(test)]
 mod statements;

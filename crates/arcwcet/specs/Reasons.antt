@@ -2,10 +2,10 @@
 use Rattle.std.specs.Prelude.{◌≡◌, ℕ, List, []}
 use Rattle.sources.specs.Lines.{AreLines}
 use Rattle.sources.specs.declared.read.Source.{Source}
+use Rattle.text_refusals.specs.AskedLabels.{IsStatementReason}
 use Rattle.text_refusals.specs.FaultyLines.{AreFaultyLines}
 use Rattle.text_refusals.specs.FileTexts.{IsGivenText, IsMachineText, IsProfileText}
 use Rattle.text_refusals.specs.Reasons.{IsGraphReason, IsLoopsReason}
-use Rattle.text_refusals.specs.Refused.{IsStatementText}
 use Rattle.text_refusals.specs.Texts.{IsFaultyRow}
 use Rattle.text_rows.specs.Rows.{AreRows}
 use Rattle.text_refusals.specs.declared.source_faults.FaultyLine.{FaultyLine}
@@ -44,7 +44,7 @@ IsFileReason files fault text = text ≡ []
 abbrev pub IsStopReason : RefusedFiles → Source → Stop → List ℕ → Type 0
 IsStopReason files source (stop.Alone fault) text = IsFileReason files fault text
 IsStopReason files source (stop.Statement shown fault) text =
-    IsStatementText source.labels shown.now fault text
+    IsStatementReason source shown.now fault text
 IsStopReason files source (stop.Graph stated profile fault) text =
     ByWords source (λ words. IsGraphReason words stated profile fault text)
 IsStopReason files source (stop.Loops stated flow fault) text =

@@ -17,7 +17,8 @@ use Rattle.source_reports.specs.DraftReport.{IsDraftOnRefused, IsDraftOnReport}
 use Rattle.source_reports.specs.DraftReport.{IsDraftRefused, IsDraftReport}
 use Rattle.source_reports.specs.ListReport.{IsListReport}
 use Rattle.machine_reports.specs.Debug.{IsDebugReport}
-use Rattle.machine_reports.specs.Machine.{IsMachineReport, ShowsRegisters, ShowsSteps}
+use Rattle.machine_reports.specs.Machine.{End, Front, IsMachineReport, ShowsRecords, ShowsRegisters}
+use Rattle.machine_reports.specs.Machine.{ShowsSteps, lines_end, record_end}
 use Rattle.machine_reports.specs.RunTo.{IsRunToRefused, IsRunToReport}
 use Rattle.bound_reports.specs.TightReport.{IsTightRefused, IsTightReport}
 use Rattle.bound_reports.specs.VisitsReport.{AreRefused, IsVisitsReport}
@@ -101,6 +102,15 @@ abbrev pub IsDrawn : (html : Bool) → List ℕ → List ℕ → Extent → Prof
 IsDrawn true = IsPageReport
 IsDrawn false = IsGraphReport
 
+-- the forms of a trace: lines of JSON, or else lines of text
+abbrev pub trace_shows : (json : Bool) → Front
+trace_shows true = ShowsRecords
+trace_shows false = ShowsSteps
+
+abbrev pub trace_end : (json : Bool) → End
+trace_end true = record_end
+trace_end false = lines_end
+
 -- how often FIQ interrupts the handler of `visits`
 abbrev pub rate_of : CommandNumbers → VisitRate
 rate_of n = option_map_or (λ every. Every every n.waited) n.every (Times (unwrap_or n.visits 0))
@@ -164,14 +174,16 @@ module _ (asked : Asked) (i : Inputs) (typed : List ℕ) where
   report_by command.DraftOn =
       unpriced (IsDraftOnReport i.source i.second) (IsDraftOnRefused i.source i.second)
   report_by command.Run =
-      judged i.profile (IsMachineReport ShowsRegisters i.source i.second) (IsRunRefused i.source i.second)
+      judged i.profile (IsMachineReport ShowsRegisters lines_end i.source i.second) (IsRunRefused i.source i.second)
   report_by command.RunTo =
-      judged i.profile (IsRunToReport ShowsRegisters i.source i.second asked.word)
+      judged i.profile (IsRunToReport ShowsRegisters lines_end i.source i.second asked.word)
       (IsRunToRefused i.source i.second asked.word)
   report_by command.Trace =
-      judged i.profile (IsMachineReport ShowsSteps i.source i.second) (IsRunRefused i.source i.second)
+      judged i.profile (IsMachineReport (trace_shows asked.json) (trace_end asked.json) i.source i.second)
+      (IsRunRefused i.source i.second)
   report_by command.TraceTo =
-      judged i.profile (IsRunToReport ShowsSteps i.source i.second asked.word)
+      judged i.profile
+      (IsRunToReport (trace_shows asked.json) (trace_end asked.json) i.source i.second asked.word)
       (IsRunToRefused i.source i.second asked.word)
   report_by command.Debug =
       priced i.profile (IsDebugReport i.source i.second typed) (IsRunRefused i.source i.second)

@@ -16,7 +16,7 @@ use sources::Source;
 use std::alloc::{AllocError, Global};
 use text_refusals::{
     faulty_lines, faulty_text, given_text, graph_reason, loops_reason, machine_text, profile_text,
-    statement_text, words_of,
+    statement_reason, words_of,
 };
 
 /// The bytes of the files of a refused report, empty where it has no such file.
@@ -68,7 +68,7 @@ fn stop_text(
 {
     match stop {
         Stop::Alone(fault) => file_text(alloc, files, *fault),
-        Stop::Statement(text, fault) => statement_text(alloc, text, &source.labels, *fault),
+        Stop::Statement(text, fault) => statement_reason(alloc, text, source, *fault),
         Stop::Graph(statement, profile, fault) => {
             let words = words_of(alloc, source)?;
             graph_reason(alloc, &words, statement, profile, *fault)

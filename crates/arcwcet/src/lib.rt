@@ -36,7 +36,8 @@ pub use known_words::Given;
 pub use law::{input_limit, some_run_has_visits, some_run_keeps};
 pub use machine_file::{MachineFile, read_machine, read_profile};
 pub use machine_reports::{
-    RunTo, ShownRegisters, ShownSteps, debug_report, run_report, run_to_report, trace_report,
+    RunTo, ShownRecords, ShownRegisters, ShownSteps, debug_report, run_report, run_to_report,
+    trace_report,
 };
 pub use outputs::{Output, OutputFault, write_whole};
 pub use progress::{ClockTimer, LateOutput, Timer, WatchedOutput};

@@ -14,6 +14,7 @@ ghost use Rattle.explain_reports.specs.PageReport.{IsPageReport};
 ghost use Rattle.explain_reports.specs.Verdict.{ExplainsVerdict};
 ghost use Rattle.follow_reports.specs.FollowReport.{FollowsRun};
 ghost use Rattle.follow_reports.specs.FollowVisits.{FollowsVisitedRun};
+ghost use Rattle.machine_reports.specs.Machine.{ReportsRun};
 ghost use Rattle.machine_reports.specs.RunTo.{ReportsRunTo};
 ghost use Rattle.response_reports.specs.Question.{fiq_question};
 ghost use Rattle.response_reports.specs.RespondReport.{Responds};
@@ -23,7 +24,7 @@ ghost use Rattle.arcwcet.specs.Kept.{inputs_lent};
 ghost use Rattle.arcwcet.specs.Reports.{IsDrawn, answered, bursts_of, by_facts, extent_of, fiq_asked_in};
 ghost use Rattle.arcwcet.specs.Reports.{fiq_files, fiq_source_in, form_of, justified, priced};
 ghost use Rattle.arcwcet.specs.Reports.{question_in, rate_of};
-ghost use Rattle.arcwcet.specs.Reports.{report_of, version_line, version_report};
+ghost use Rattle.arcwcet.specs.Reports.{report_of, trace_end, trace_shows, version_line, version_report};
 ghost use Rattle.arcwcet.specs.Run.{PrintsReport};
 
 use crate::facts::{facts_file, facts_of};
@@ -41,7 +42,8 @@ use handlers::{Refusal, ReportFault};
 use justify_reports::{JustifiedHandler, justify_report};
 use known_words::Given;
 use machine_reports::{
-    Front, RunTo, ShownRegisters, ShownSteps, debug_report, machine_report, run_to_report,
+    Front, RunTo, ShownRecords, ShownRegisters, ShownSteps, debug_report, machine_report,
+    run_to_report,
 };
 use outputs::{Output, Page};
 use response_reports::{AskedFiq, AskedResponse, respond_report};
@@ -149,7 +151,7 @@ fn print_run_to<'b, F: Front, O: Output>(
 ) -> Result<bool, Refusal<'b>>
     ensures { let inputs = inputs_lent job.entry.inputs in
         Priced inputs.profile
-        (λ p. ReportsRunTo F.shows O.taken O.failures inputs.source inputs.second
+        (λ p. ReportsRunTo F.shows F.ends O.taken O.failures inputs.source inputs.second
         (asked_of job.entry.request.now).word p out.old out.new (fault_only result)) out.old out.new
         (fault_only result) }
 {
@@ -160,6 +162,48 @@ fn print_run_to<'b, F: Front, O: Output>(
         to: job.request.word.as_bytes(),
     };
     alone(run_to_report::<F, O>(alloc, asked, inputs.profile, out))
+}
+
+// `trace`, of a source and a machine file: as lines of JSON, if these are asked for.
+fn print_trace<'b, O: Output>(
+    alloc: Global,
+    job: Job<'b, '_>,
+    out: &mut O,
+) -> Result<bool, Refusal<'b>>
+    ensures { let inputs = inputs_lent job.entry.inputs in
+        let json = (asked_of job.entry.request.now).json in
+        Priced inputs.profile
+        (λ p. ReportsRun (trace_shows json) (trace_end json) O.taken O.failures inputs.source inputs.second p
+        out.old out.new (fault_only result)) out.old out.new (fault_only result) }
+{
+    let Inputs {
+        source,
+        second,
+        profile,
+        ..
+    } = job.inputs;
+    if job.request.json {
+        return alone(machine_report::<ShownRecords, O>(alloc, source, second, profile, out));
+    }
+    alone(machine_report::<ShownSteps, O>(alloc, source, second, profile, out))
+}
+
+// `trace --to`, in the same forms.
+fn print_trace_to<'b, O: Output>(
+    alloc: Global,
+    job: Job<'b, '_>,
+    out: &mut O,
+) -> Result<bool, Refusal<'b>>
+    ensures { let inputs = inputs_lent job.entry.inputs in
+        let asked = asked_of job.entry.request.now in
+        Priced inputs.profile
+        (λ p. ReportsRunTo (trace_shows asked.json) (trace_end asked.json) O.taken O.failures inputs.source
+        inputs.second asked.word p out.old out.new (fault_only result)) out.old out.new (fault_only result) }
+{
+    if job.request.json {
+        return print_run_to::<ShownRecords, O>(alloc, job, out);
+    }
+    print_run_to::<ShownSteps, O>(alloc, job, out)
 }
 
 // `graph --html`, of a source and a statement.
@@ -494,10 +538,8 @@ pub(crate) fn print<'b, O: Output>(
             alloc, source, second, profile, out,
         )),
         Command::RunTo => print_run_to::<ShownRegisters, O>(alloc, job, out),
-        Command::Trace => alone(machine_report::<ShownSteps, O>(
-            alloc, source, second, profile, out,
-        )),
-        Command::TraceTo => print_run_to::<ShownSteps, O>(alloc, job, out),
+        Command::Trace => print_trace(alloc, job, out),
+        Command::TraceTo => print_trace_to(alloc, job, out),
         Command::Debug => answered(alone(debug_report(alloc, source, second, typed, profile, out))),
         Command::Bound => answered(print_bound(alloc, source, second, profile, out)),
         Command::Tight => print_edge(alloc, inputs, numbers, out),

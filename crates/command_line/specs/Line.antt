@@ -73,7 +73,8 @@ usages =
     ∷ usage (codes "run") command.Run
     (profile ∷ source ∷ machine ∷ other (codes "to") form.WordOption command.RunTo ∷ [])
     ∷ usage (codes "trace") command.Trace
-    (profile ∷ source ∷ machine ∷ other (codes "to") form.WordOption command.TraceTo ∷ [])
+    (profile ∷ source ∷ machine ∷ other (codes "to") form.WordOption command.TraceTo
+    ∷ argument (codes "json") form.Json ∷ [])
     ∷ usage (codes "debug") command.Debug (profile ∷ source ∷ machine ∷ [])
     ∷ usage (codes "bound") command.Bound
     (profile ∷ source ∷ statement ∷ other (codes "tight") form.NumberOption command.Tight ∷ [])
@@ -155,6 +156,7 @@ rule_by form.First id = record (option_rule id) { action = Some SetTrue }
 rule_by form.All id = record (option_rule id) { action = Some SetTrue }
 rule_by form.Path id = record (option_rule id) { action = Some SetTrue }
 rule_by form.Html id = record (option_rule id) { action = Some SetTrue }
+rule_by form.Json id = record (option_rule id) { action = Some SetTrue }
 
 abbrev pub rule_as : Argument → Rule
 rule_as a = rule_by a.form a.id
@@ -183,7 +185,7 @@ arcwcet_command = with_commands arcwcet_top usages
 -- a command; whether to print what shows the reason of a refusal, what is being done, the bound of each
 -- destination alone, first starts, and each row of a table; whether of the files of `respond` the first
 -- behind the second are FIQ's statement and its source; whether to draw the path alone, and whether to print a
--- page in place of a drawing; the names of files, the cycle profile's apart; a word that names no file to be
+-- page in place of a drawing, and lines of JSON; the names of files, the cycle profile's apart; a word that names no file to be
 -- read; and numbers
 pub record Asked : Type 0 where
   pub command : Command
@@ -196,6 +198,7 @@ pub record Asked : Type 0 where
   pub fiq_source : Bool
   pub path : Bool
   pub html : Bool
+  pub json : Bool
   pub profile : Option Text
   pub files : List Text
   pub word : Text
@@ -215,6 +218,7 @@ plainly command numbers =
       fiq_source = false;
       path = false;
       html = false;
+      json = false;
       profile = None;
       files = [];
       word = [];
@@ -295,6 +299,7 @@ with_value_by form.First value asked = record asked { first = bytes_eq value (co
 with_value_by form.All value asked = record asked { all = bytes_eq value (codes "true") }
 with_value_by form.Path value asked = record asked { path = bytes_eq value (codes "true") }
 with_value_by form.Html value asked = record asked { html = bytes_eq value (codes "true") }
+with_value_by form.Json value asked = record asked { json = bytes_eq value (codes "true") }
 with_value_by form.OptionalNumber value asked = asked
 with_value_by form.NumberOption value asked = asked
 with_value_by form.TicksOption value asked = asked

@@ -26,6 +26,7 @@ asked_of q =
       fiq_source = q.fiq_source;
       path = q.path;
       html = q.html;
+      json = q.json;
       profile = option_map (λ s. s.now) q.profile;
       files = map (λ s. s.now) q.files.items;
       word = q.word.now;

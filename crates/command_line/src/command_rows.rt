@@ -47,6 +47,8 @@ pub(crate) enum Form {
     Path,
     /// The option that asks for a page of HTML.
     Html,
+    /// The option that asks for lines of JSON.
+    Json,
 }
 
 /// An argument, what the help says of it, and what is asked for instead where it is given, if that is another
@@ -117,6 +119,13 @@ const TRACE_TO: ArgumentRow = ArgumentRow {
     form: Form::WordOption,
     help: "End before the instruction at LABEL, a label or an address, if the run comes there",
     instead: Some(Command::TraceTo),
+};
+
+const JSON: ArgumentRow = ArgumentRow {
+    id: "json",
+    form: Form::Json,
+    help: "Print each step, and the end, as a line of JSON",
+    instead: None,
 };
 
 const STATEMENT: ArgumentRow = ArgumentRow {
@@ -394,7 +403,7 @@ pub(crate) const COMMANDS: [CommandRow; 14] = [
         name: "trace",
         command: Command::Trace,
         summary: "Run a machine, and print a line for each step",
-        arguments: &[PROFILE, SOURCE, MACHINE, TRACE_TO],
+        arguments: &[PROFILE, SOURCE, MACHINE, TRACE_TO, JSON],
     },
     CommandRow {
         name: "debug",

@@ -43,7 +43,8 @@ fn argument<'a>(alloc: Global, row: &ArgumentRow) -> Arg<'a>
         | Form::First
         | Form::All
         | Form::Path
-        | Form::Html => { arg.long(row.id).action(ArgAction::SetTrue) }
+        | Form::Html
+        | Form::Json => { arg.long(row.id).action(ArgAction::SetTrue) }
     }
 }
 

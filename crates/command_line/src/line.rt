@@ -105,6 +105,8 @@ pub struct Request<'a> {
     pub path: bool,
     /// Whether in place of a drawing a page of HTML is to be printed.
     pub html: bool,
+    /// Whether of a trace lines of JSON are to be printed.
+    pub json: bool,
     /// The name of a cycle profile's file.
     pub profile: Option<&'a str>,
     /// The names of the other files to be read, in their order.

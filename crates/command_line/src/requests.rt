@@ -132,6 +132,7 @@ fn add_value<'a>(
         Form::All => request.all = value == "true",
         Form::Path => request.path = value == "true",
         Form::Html => request.html = value == "true",
+        Form::Json => request.json = value == "true",
         Form::OptionalNumber | Form::NumberOption | Form::TicksOption | Form::WidthOption => {}
     }
     Ok(())
@@ -175,6 +176,7 @@ fn asked<'a>(
         fiq_source: false,
         path: false,
         html: false,
+        json: false,
         profile: None,
         files: Vec::new(alloc),
         word: "",
@@ -349,6 +351,7 @@ fn version<'a>(alloc: Global) -> Request<'a>
         fiq_source: false,
         path: false,
         html: false,
+        json: false,
         profile: None,
         files: Vec::new(alloc),
         word: "",

@@ -33,10 +33,10 @@ use Rattle.handlers.specs.declared.fault.ReportFault.{ReportFault}
 -- ## The explanation
 
 -- by the lines of a text, or by the words of an image: the table, then what bursts add to the bound, then
--- what the walk takes of each loop and of each routine, then where its conditions exclude one another, then what
--- is taken for granted, then how many words
--- each rule for a base register covers, then the entries of the statement without effect, then the longest
--- step and how long interrupts are masked, and then what better entries would save
+-- what the walk takes of each loop and of each routine, then where its conditions exclude one another, then
+-- what is taken for granted, then how many words each rule for a base register covers, then the entries of
+-- the statement without effect, then the longest step and how long interrupts are masked, and then what
+-- better entries would save
 pub record IsTextOf (source : Source) (stated : Stated) (flow : Flow) (longest : Longest)
     (starts : WordStarts) (rows : RowForm) (price : ℕ) (bursts : Bursts) (text : List ℕ) : Type 0 where
   pub table : List ℕ
@@ -62,7 +62,8 @@ pub record IsTextOf (source : Source) (stated : Stated) (flow : Flow) (longest :
   pub are_masks : AreMaskSections source source.image stated.loops flow masks
   pub are_savings : IsSavingsText source source.image stated flow (unfolded longest.walk) savings
   pub text_is : text
-      ≡ table ++ (burst_lines ++ loop_sums ++ routine_sums ++ contradictions ++ assumptions ++ rules ++ idle ++ masks
+      ≡ table
+      ++ (burst_lines ++ loop_sums ++ routine_sums ++ contradictions ++ assumptions ++ rules ++ idle ++ masks
       ++ savings)
 
 -- the ticks of all rows of the table are the bound
@@ -74,10 +75,11 @@ IsTotal source flow longest =
 
 -- of an accepted source and statement: the table of a greatest walk, whose cost is the bound, as the ticks
 -- of all rows are, with when each word begins at the latest on any walk, and so in any run, and when it does
--- for the first time, if that is asked for; what bursts add
--- to the bound, and so to any run in which they come so often; what is taken for granted of the words that
--- are reached; what each rule for a base register covers; the entries of the statement without effect; the
--- longest step and how long interrupts are masked; and what better entries would save
+-- for the first time, if that is asked for; what bursts add to the bound, and so to any run in which they
+-- come so often; what the walk takes of each loop and each routine; where its conditions exclude one another;
+-- what is taken for granted of the words that are reached; what each rule for a base register covers; the
+-- entries of the statement without effect; the longest step and how long interrupts are masked; and what
+-- better entries would save
 pub record IsExplanation (source statement : List ℕ) (bursts : Bursts) (form : TableForm)
     (profile : Profile) (bound : ℕ) (text : List ℕ) : Type 0 where
   pub bounded : IsBounded source statement profile

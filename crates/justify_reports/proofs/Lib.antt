@@ -4,3 +4,5 @@ mod RowLemmas
 mod SetLemmas
 mod TextLemmas
 mod TrustLemmas
+mod OutsideLemmas
+mod ClassLemmas

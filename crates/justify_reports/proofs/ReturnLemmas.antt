@@ -107,7 +107,7 @@ module _ (words : Words) (st : Stated) (flow : Flow) (tree : Tree) (destinations
       pub none_without : (HasReturn words st at → ⊥) → (a : ℕ) (g : Going) → GoesFrom words st flow tree destinations a number g → ⊥
       none_without none a g goes = none (subst (HasReturn words st) (sym (same_address a g goes)) goes.returns)
 
-      module _ (has : HasReturn words st at) (going : Going) (is : going ≡ going_of words (target_of st at) calls (destination_at destinations number)) where
+      module _ (has : HasReturn words st at) (going : Going) (is : going ≡ going_of words st.leave (target_of st at) calls (destination_at destinations number)) where
         goes_there : GoesFrom words st flow tree destinations at number going
         goes_there = record { calls = calls; place = place; returns = has; going_is = is }
 
@@ -115,7 +115,7 @@ module _ (words : Words) (st : Stated) (flow : Flow) (tree : Tree) (destinations
         only g goes =
             let same : At calls at ≡ At goes.calls at = same_place at g goes in
             let one : goes.calls ≡ calls = cc in
-            goes.going_is ∙ ap (λ (cs : List ℕ). going_of words (target_of st at) cs (destination_at destinations number)) one ∙ sym is
+            goes.going_is ∙ ap (λ (cs : List ℕ). going_of words st.leave (target_of st at) cs (destination_at destinations number)) one ∙ sym is
 
         pub put : (new : ℕ → Option Going) → ((a : ℕ) → new a ≡ cond (at == a) (Some (graver (old at) going)) (old a))
             → AreFound words st flow tree destinations number old → AreFound words st flow tree destinations (number + 1) new
@@ -140,7 +140,7 @@ module _ (words : Words) (st : Stated) (flow : Flow) (tree : Tree) (destinations
         → (o : Option Going) → IsFound (GoesFrom words st flow tree destinations a) (length flow.places) o
         → IsGoing words st flow tree destinations a (unwrap_or o Unseen)
     is_going a number calls low place has None none =
-        absurd (none number (going_of words (target_of st a) calls (destination_at destinations number)) low
+        absurd (none number (going_of words st.leave (target_of st a) calls (destination_at destinations number)) low
         (record { calls = calls; place = place; returns = has; going_is = refl }))
     is_going a number calls low place has (Some going) is = is
 

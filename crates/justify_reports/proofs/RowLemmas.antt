@@ -15,23 +15,24 @@ use Rattle.loop_bounds.specs.Tree.{Tree}
 use Rattle.known_places.specs.OnTrust.{OnTrust}
 use Rattle.known_places.specs.declared.destination.Destination.{Destination}
 use Rattle.known_words.specs.declared.given.Given.{Given}
+use Rattle.known_words.specs.declared.words.Range.{Range}
 use Rattle.justify_reports.specs.JustifyReport.{IsJustifyText}
 use Rattle.justify_reports.specs.Rows.{AreClassRows, AreClassed, AreLoopRows, AreReturnRows, AreStatedRows}
 use Rattle.justify_reports.specs.RowTexts.{AreRowTexts, IsEnd, IsRowText, front_text}
 use Rattle.justify_reports.specs.Summary.{AreFactRows, summary_text}
 use Rattle.justify_reports.specs.declared.rows.Row.{Row}
 
-pub all_rows : (words : Words) (st : Stated) (flow : Flow) (tree : Tree) (left : Option OnTrust) (destinations : List Destination) (named shown : List ℕ) (loops : List Loop)
+pub all_rows : (words : Words) (st : Stated) (flow : Flow) (tree : Tree) (left : Option OnTrust) (destinations : List Destination) (outside : List (Option Range)) (named shown : List ℕ) (loops : List Loop)
     (none classes returns rows : List Row) → AreClassed words st flow left named → shown ≡ named → loops ≡ st.loops.list → none ≡ []
-    → Appends (AreClassRows words st left shown) none classes → Appends (AreReturnRows words st flow tree destinations) classes returns
-    → Appends (AreLoopRows left loops) returns rows → AreStatedRows words st flow tree left destinations rows
-all_rows words st flow tree left destinations named shown loops none classes returns rows are same list empty first then last = record {
+    → Appends (AreClassRows words st flow tree left outside shown) none classes → Appends (AreReturnRows words st flow tree destinations) classes returns
+    → Appends (AreLoopRows left loops) returns rows → AreStatedRows words st flow tree left destinations outside rows
+all_rows words st flow tree left destinations outside named shown loops none classes returns rows are same list empty first then last = record {
   named = named;
   classes = first.0;
   returns = then.0;
   loops = last.0;
   are_classed = are;
-  are_classes = subst (λ (ns : List ℕ). AreClassRows words st left ns first.0) same first.1;
+  are_classes = subst (λ (ns : List ℕ). AreClassRows words st flow tree left outside ns first.0) same first.1;
   are_returns = then.1;
   are_loops = subst (λ (ls : List Loop). AreLoopRows left ls last.0) list last.1;
   rows_are =

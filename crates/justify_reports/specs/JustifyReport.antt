@@ -3,8 +3,10 @@ use Rattle.std.specs.Prelude.{◌≡◌, ◌==◌, ℕ, Bool, true, not, ◌&&�
 use Rattle.bus_ticks.specs.declared.profile.Profile.{Profile}
 use Rattle.known_places.specs.Destinations.{AreDestinations}
 use Rattle.known_places.specs.OnTrust.{OnTrust}
+use Rattle.known_places.specs.Outside.{AreOutside}
 use Rattle.known_places.specs.declared.destination.Destination.{Destination}
 use Rattle.known_words.specs.declared.given.Given.{Given}
+use Rattle.known_words.specs.declared.words.Range.{Range}
 use Rattle.sources.specs.Source.{IsSource}
 use Rattle.sources.specs.declared.read.Source.{Source}
 use Rattle.handlers.specs.Answers.{Answers}
@@ -29,23 +31,26 @@ pub record IsJustifyText (read : Source) (given : List Given) (left : Option OnT
 abbrev pub is_enough : (all : Bool) → List Row → Bool
 is_enough all rows = (false_count rows == 0) && (not all || (follows_count rows == length rows))
 
--- Of an accepted source and statement: what is left on trust, where each other entry is proved to follow, and
--- where the words go that return or leave; the rows that say so, and the bound of each run that keeps what
--- is on trust.
+-- Of an accepted source and statement: what is left on trust, where each other entry is proved to follow; where
+-- the words go that return or leave, and which words go outside of their classes; the rows that say so, and the
+-- bound of each run that keeps what is on trust.
 pub record IsJustifyReport (source statement : List ℕ) (given : List Given) (all : Bool) (profile : Profile)
     (answer : Bool) (text : List ℕ) : Type 0 where
   pub bounded : IsBounded source statement profile
   pub read : Source
   pub left : Option OnTrust
   pub destinations : List Destination
+  pub outside : List (Option Range)
   pub rows : List Row
   pub is_read : IsSource source read
   pub justified : IsJustified bounded.accepted.loops.graph.words bounded.accepted.stated profile
       bounded.accepted.flow given left bounded.longest.bound
   pub goes : AreDestinations bounded.accepted.loops.graph.words bounded.accepted.stated bounded.accepted.flow
       bounded.tree given destinations
+  pub goes_outside : AreOutside bounded.accepted.loops.graph.words bounded.accepted.stated bounded.accepted.flow
+      bounded.tree given outside
   pub are_rows : AreStatedRows read.image bounded.accepted.stated bounded.accepted.flow bounded.tree left
-      destinations rows
+      destinations outside rows
   pub text_is : IsJustifyText read given left rows bounded.longest.bound profile.burst text
   pub answer_is : answer ≡ is_enough all rows
 

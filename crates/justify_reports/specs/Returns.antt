@@ -1,10 +1,14 @@
 -- Where the words go that return or leave a handler.
-use Rattle.std.specs.Prelude.{◌≡◌, ◌<◌, ◌≤◌, ◌==◌, ◌↔◌, ℕ, Bool, true, false, not, ◌&&◌, if◌then◌else◌, List}
+use Rattle.std.specs.Prelude.{◌≡◌, ◌<◌, ◌≤◌, ◌==◌, ◌↔◌, ℕ, Bool, true, false, not, ◌&&◌, ◌||◌, if◌then◌else◌, List}
 use Rattle.std.specs.Prelude.{Contains, Option, Some, None, is_some, length, nat_lt}
 use Rattle.std.specs.List.Sorted.{IsStrictlySortedBy}
 use Rattle.std.specs.Ordering.{nat_cmp}
 use Rattle.arm2_decode.specs.Writers.{writes_pc}
 use Rattle.arm2_decode.specs.declared.instr.Instr.{Instr}
+use Rattle.bus_ticks.specs.Prices.{by_class, class_of, speed_of}
+use Rattle.bus_ticks.specs.declared.profile.Class.{Class}
+use Rattle.bus_ticks.specs.declared.profile.Class.TheVariants.{Any, Io, Ram, Rom}
+use Rattle.bus_ticks.specs.declared.profile.Class.TheVariants.{Fast, Medium, Slow, Synchronous}
 use Rattle.control_flow.specs.Edges.{return_place}
 use Rattle.control_flow.specs.Flow.{Flow}
 use Rattle.control_flow.specs.declared.places.Place.{Place}
@@ -52,12 +56,27 @@ abbrev pub leaves : Option Target → Bool
 leaves None = false
 leaves (Some target) = is_leave target.kind
 
--- Out of the handler: to the address in R14 at the entry less so many bytes, or to an address; where the source
--- has a word that is no way out, unless the word is stated to leave.
-abbrev pub going_out : Words → (stated : Bool) → Destination → Going
-going_out words stated Unknown = Unseen
-going_out words stated (LinkLess bytes) = Back bytes
-going_out words stated (To a) = if not stated && is_some (word_of words a) then Elsewhere a else Out a
+-- the address is of the class
+abbrev pub is_of : Class → ℕ → Bool
+is_of Any a = true
+is_of Ram a = by_class (class_of a) true false false
+is_of Rom a = by_class (class_of a) false true false
+is_of Io a = by_class (class_of a) false false true
+is_of Slow a = by_class (class_of a) false false (speed_of a == 0)
+is_of Medium a = by_class (class_of a) false false (speed_of a == 1)
+is_of Fast a = by_class (class_of a) false false (speed_of a == 2)
+is_of Synchronous a = by_class (class_of a) false false (speed_of a == 3)
+
+-- an address to which a word may leave: it is of the class of leave, and either the source has no word there or
+-- the word that goes there is stated to leave
+abbrev pub is_outside : Words → (leave : Class) → (stated : Bool) → ℕ → Bool
+is_outside words leave stated a = is_of leave a && (stated || not (is_some (word_of words a)))
+
+-- out of the handler: to the address in R14 at the entry less so many bytes, or to an address
+abbrev pub going_out : Words → (leave : Class) → (stated : Bool) → Destination → Going
+going_out words leave stated Unknown = Unseen
+going_out words leave stated (LinkLess bytes) = Back bytes
+going_out words leave stated (To a) = if is_outside words leave stated a then Out a else Elsewhere a
 
 -- back to the word after a call
 abbrev pub going_back : (next : ℕ) → Destination → Going
@@ -66,13 +85,13 @@ going_back next (LinkLess bytes) = BackInside bytes
 going_back next (To a) = if a == next then AfterCall else Elsewhere a
 
 -- to the place where a return leads by the graph
-abbrev pub going_by : Words → (stated : Bool) → Place → Destination → Going
-going_by words stated Exit = going_out words stated
-going_by words stated (At calls next) = going_back next
+abbrev pub going_by : Words → (leave : Class) → (stated : Bool) → Place → Destination → Going
+going_by words leave stated Exit = going_out words leave stated
+going_by words leave stated (At calls next) = going_back next
 
-abbrev pub going_of : Words → Option Target → List ℕ → Destination → Going
-going_of words target calls =
-    going_by words (leaves target) (if leaves target then Exit else return_place calls)
+abbrev pub going_of : Words → (leave : Class) → Option Target → List ℕ → Destination → Going
+going_of words leave target calls =
+    going_by words leave (leaves target) (if leaves target then Exit else return_place calls)
 
 -- ## Where one goes from all its places
 
@@ -91,7 +110,7 @@ pub record GoesFrom (words : Words) (st : Stated) (flow : Flow) (tree : Tree)
   pub calls : List ℕ
   pub place : place_in flow tree number ≡ At calls a
   pub returns : HasReturn words st a
-  pub going_is : going ≡ going_of words (target_of st a) calls (destination_at destinations number)
+  pub going_is : going ≡ going_of words st.leave (target_of st a) calls (destination_at destinations number)
 
 -- of all numbers below the end for which there is one, the gravest, and of those as grave the first
 pub record IsGravest (Goes : ℕ → Going → Type 0) (end : ℕ) (going : Going) : Type 0 where

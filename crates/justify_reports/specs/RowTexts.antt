@@ -6,6 +6,7 @@ use Rattle.image.specs.Image.{Words, word_of}
 use Rattle.sources.specs.Lines.{line_of}
 use Rattle.sources.specs.declared.read.Source.{Source}
 use Rattle.statement.specs.Statement.{class_name}
+use Rattle.known_words.specs.declared.words.Range.{Range}
 use Rattle.text_rows.specs.Columns.{in_columns}
 use Rattle.text_rows.specs.Rows.{AreRows, IsShownRow, address_row, named_row}
 use Rattle.text_rows.specs.WordLines.{Numbered}
@@ -13,14 +14,16 @@ use Rattle.justify_reports.specs.declared.returns.Going.{Going}
 use Rattle.justify_reports.specs.declared.returns.Going.TheVariants.{AfterCall, Back, BackInside, Elsewhere, Out, Unseen}
 use Rattle.justify_reports.specs.declared.rows.Entry.{Entry}
 use Rattle.justify_reports.specs.declared.rows.Entry.TheVariants.{Access, Base, Loop, Return}
+use Rattle.justify_reports.specs.declared.rows.Reach.{Reach}
+use Rattle.justify_reports.specs.declared.rows.Reach.TheVariants.{Of, Outside}
 use Rattle.justify_reports.specs.declared.rows.Row.{Row}
 use Rattle.justify_reports.specs.declared.rows.Verdict.{Verdict}
 use Rattle.justify_reports.specs.declared.rows.Verdict.TheVariants.{False, Follows, OnTrust}
 
 -- the kind of an entry
 abbrev pub kind_text : Entry → List ℕ
-kind_text (Access class) = codes "  access"
-kind_text (Base class) = codes "  base  "
+kind_text (Access reach) = codes "  access"
+kind_text (Base reach) = codes "  base  "
 kind_text (Return going) = codes "  return"
 kind_text (Loop bound) = codes "  loop  "
 
@@ -36,10 +39,21 @@ going_text (Out a) = codes "to " ++ hex8 a
 going_text Unseen = codes "unknown"
 going_text (Elsewhere a) = codes "to " ++ hex8 a
 
--- what is stated, a class or the most back edges of a stay; or where a return goes
+-- the addresses from the lowest to the highest
+abbrev pub range_text : Range → List ℕ
+range_text range =
+    if range.low == range.high then codes "to " ++ hex8 range.low
+    else hex8 range.low ++ (codes "-" ++ hex8 range.high)
+
+abbrev pub reach_text : Reach → List ℕ
+reach_text (Of class) = class_name class
+reach_text (Outside range) = range_text range
+
+-- what is stated, a class or the most back edges of a stay; or where a word goes outside of its class, or where
+-- a return goes
 abbrev pub stated_text : Entry → List ℕ
-stated_text (Access class) = class_name class
-stated_text (Base class) = class_name class
+stated_text (Access reach) = reach_text reach
+stated_text (Base reach) = reach_text reach
 stated_text (Return going) = going_text going
 stated_text (Loop bound) = codes "at most " ++ decimal bound
 

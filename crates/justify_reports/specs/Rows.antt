@@ -1,6 +1,6 @@
 -- The entries of a statement that may follow from the code, a row for each.
 use Rattle.std.specs.Prelude.{◌≡◌, ◌≢◌, ◌↔◌, ◌⊎◌, ℕ, Bool, true, false, if◌then◌else◌, List, [], ◌∷◌, ◌++◌}
-use Rattle.std.specs.Prelude.{Contains, Option, is_some, nat_eq, unwrap_or}
+use Rattle.std.specs.Prelude.{Contains, Option, Some, None, is_some, nat_eq, unwrap_or}
 use Rattle.std.specs.List.Sorted.{IsStrictlySortedBy}
 use Rattle.std.specs.Map.{lookup}
 use Rattle.std.specs.Ordering.{nat_cmp}
@@ -18,14 +18,18 @@ use Rattle.text_explained.specs.Taken.{is_reached}
 use Rattle.text_rows.specs.Rows.{AreRows}
 use Rattle.word_shapes.specs.Words.{HasInstr}
 use Rattle.loop_bounds.specs.Tree.{Tree}
+use Rattle.known_words.specs.declared.words.Range.{Range}
 use Rattle.known_places.specs.OnTrust.{OnTrust}
 use Rattle.known_places.specs.declared.destination.Destination.{Destination}
+use Rattle.justify_reports.specs.Outside.{IsOutside}
 use Rattle.justify_reports.specs.Returns.{AreReturns, IsGoing}
 use Rattle.justify_reports.specs.Trust.{lists_class, trusts_class, trusts_loop}
 use Rattle.justify_reports.specs.declared.rows.Entry.{Entry}
 use Rattle.justify_reports.specs.declared.rows.Entry.TheVariants as entry
 use Rattle.justify_reports.specs.declared.returns.Going.{Going}
 use Rattle.justify_reports.specs.declared.returns.Going.TheVariants.{AfterCall, Back, BackInside, Elsewhere, Out, Unseen}
+use Rattle.justify_reports.specs.declared.rows.Reach.{Reach}
+use Rattle.justify_reports.specs.declared.rows.Reach.TheVariants.{Of, Outside}
 use Rattle.justify_reports.specs.declared.rows.Row.{Row}
 use Rattle.justify_reports.specs.declared.rows.Verdict.{Verdict}
 use Rattle.justify_reports.specs.declared.rows.Verdict.TheVariants as verdict
@@ -55,19 +59,40 @@ abbrev pub IsClassAt : Words → Stated → ℕ → Class → Type 0
 IsClassAt words st a class = (i : Instr) → HasInstr words a i → class ≡ class_at st a (base_of i.operation)
 
 -- by an entry of its own, or by a rule for a base register
-abbrev pub entry_of : Stated → ℕ → Class → Entry
-entry_of st a class = if is_some (lookup (nat_eq a) st.accesses) then entry.Access class else entry.Base class
+abbrev pub entry_of : Stated → ℕ → Reach → Entry
+entry_of st a reach = if is_some (lookup (nat_eq a) st.accesses) then entry.Access reach else entry.Base reach
 
 abbrev pub by_trust : Bool → Verdict
 by_trust true = verdict.OnTrust
 by_trust false = verdict.Follows
 
+-- a class that is on trust is false where the word goes outside of it
+abbrev pub class_verdict : (trusted : Bool) → Option Range → Verdict
+class_verdict true None = verdict.OnTrust
+class_verdict true (Some range) = verdict.False
+class_verdict false range = verdict.Follows
+
+abbrev pub reach_of : Class → (trusted : Bool) → Option Range → Reach
+reach_of class true None = Of class
+reach_of class true (Some range) = Outside range
+reach_of class false range = Of class
+
+abbrev pub class_row : Stated → Option OnTrust → (a : ℕ) → Class → Option Range → Row
+class_row st left a class range =
+    record {
+      entry = entry_of st a (reach_of class (trusts_class left a) range);
+      at = a;
+      verdict = class_verdict (trusts_class left a) range;
+    }
+
 -- the row of a word's class
-pub record IsClassRow (words : Words) (st : Stated) (left : Option OnTrust) (a : ℕ) (row : Row) : Type 0 where
+pub record IsClassRow (words : Words) (st : Stated) (flow : Flow) (tree : Tree) (left : Option OnTrust)
+    (outside : List (Option Range)) (a : ℕ) (row : Row) : Type 0 where
   pub class : Class
+  pub range : Option Range
   pub class_is : IsClassAt words st a class
-  pub row_is : row
-      ≡ record { entry = entry_of st a class; at = a; verdict = by_trust (trusts_class left a) }
+  pub range_is : IsOutside flow tree outside a range
+  pub row_is : row ≡ class_row st left a class range
 
 abbrev pub loop_row : Option OnTrust → Loop → Row
 loop_row left l =
@@ -92,9 +117,10 @@ pub record IsReturnRow (words : Words) (st : Stated) (flow : Flow) (tree : Tree)
   pub row_is : row ≡ return_row going a
 
 -- one row for each address, and for each loop
-abbrev pub AreClassRows : Words → Stated → Option OnTrust → List ℕ → List Row → Type 0
-AreClassRows words st left =
-    AreRows (λ a part. (row : Row) × IsClassRow words st left a row × (part ≡ row ∷ []))
+abbrev pub AreClassRows : Words → Stated → Flow → Tree → Option OnTrust → List (Option Range) → List ℕ
+    → List Row → Type 0
+AreClassRows words st flow tree left outside =
+    AreRows (λ a part. (row : Row) × IsClassRow words st flow tree left outside a row × (part ≡ row ∷ []))
 
 pub record AreReturnRows (words : Words) (st : Stated) (flow : Flow) (tree : Tree)
     (destinations : List Destination) (rows : List Row) : Type 0 where
@@ -114,13 +140,13 @@ AreLoopRows left = AreRows (λ l part. part ≡ loop_row left l ∷ [])
 -- the rows of the words with a class, then of those that return or leave, both by their addresses, and then
 -- of all stated loops, in the statement's order
 pub record AreStatedRows (words : Words) (st : Stated) (flow : Flow) (tree : Tree) (left : Option OnTrust)
-    (destinations : List Destination) (rows : List Row) : Type 0 where
+    (destinations : List Destination) (outside : List (Option Range)) (rows : List Row) : Type 0 where
   pub named : List ℕ
   pub classes : List Row
   pub returns : List Row
   pub loops : List Row
   pub are_classed : AreClassed words st flow left named
-  pub are_classes : AreClassRows words st left named classes
+  pub are_classes : AreClassRows words st flow tree left outside named classes
   pub are_returns : AreReturnRows words st flow tree destinations returns
   pub are_loops : AreLoopRows left st.loops.list loops
   pub rows_are : rows ≡ classes ++ (returns ++ loops)

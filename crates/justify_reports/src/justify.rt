@@ -5,6 +5,7 @@ ghost use Rattle.control_flow.specs.Graph.{IsFlowGraph};
 ghost use Rattle.loop_bounds.specs.Handler.{HasItsTree};
 ghost use Rattle.known_places.specs.Destinations.{AreDestinations};
 ghost use Rattle.known_places.specs.OnTrust.{Justifies};
+ghost use Rattle.known_places.specs.Outside.{AreOutside};
 ghost use Rattle.handlers.specs.Priced.{Priced, given};
 ghost use Rattle.handlers.specs.Refusal.{Carries, CarriesRead, CarriesReadBy, ComesAlone, fault_only};
 ghost use Rattle.handlers.specs.Refusal.{stop_fault};
@@ -23,8 +24,8 @@ use handlers::{
     Handler, Refusal, ReportFault, Stop, longest_of, print_or_refuse, profile_of, read_handler,
     read_source, with_source,
 };
-use known_places::{Destination, OnTrust, destinations, left_on_trust, proposed};
-use known_words::{Given, Knowledge};
+use known_places::{Destination, OnTrust, destinations, left_on_trust, outside_classes, proposed};
+use known_words::{Given, Knowledge, Range};
 use outputs::Output;
 use sources::Source;
 use std::alloc::{AllocError, Global};
@@ -55,11 +56,13 @@ fn is_enough(all: bool, rows: &[Row]) -> bool
     false_count(rows) == 0 && (!all || follows_count(rows) == rows.len())
 }
 
-// What is left on trust, `None` where nothing is seen to follow; and where the word of each place goes.
+// What is left on trust, `None` where nothing is seen to follow; where the word of each place goes, and where it
+// goes outside of its class.
 #[derive(Drop)]
 struct Seen {
     left: Option<OnTrust>,
     destinations: Vec<Destination>,
+    outside: Vec<Option<Range>>,
 }
 
 fn destinations_of(
@@ -80,6 +83,24 @@ fn destinations_of(
     }
 }
 
+fn outside_of(
+    alloc: Global,
+    handler: &Handler<'_>,
+    given: &[Given],
+    table: &[Knowledge],
+) -> Result<Vec<Option<Range>>, AllocError>
+    requires graph { IsFlowGraph handler.now.image.now handler.now.statement handler.now.graph.profile
+        handler.now.graph }
+    requires tree { HasItsTree handler.now }
+    ensures { IfOk result (λ found. AreOutside handler.now.image.now handler.now.statement
+        handler.now.graph handler.now.tree given.now found.items) }
+{
+    match outside_classes(alloc, handler, given, table)? {
+        Some(found) => Ok(found),
+        None => Ok(Vec::new(alloc)),
+    }
+}
+
 fn seen_of(alloc: Global, handler: &Handler<'_>, given: &[Given]) -> Result<Seen, AllocError>
     requires graph { IsFlowGraph handler.now.image.now handler.now.statement handler.now.graph.profile
         handler.now.graph }
@@ -88,11 +109,18 @@ fn seen_of(alloc: Global, handler: &Handler<'_>, given: &[Given]) -> Result<Seen
         (Justifies handler.now.image.now handler.now.statement handler.now.graph given.now)) }
     ensures goes { IfOk result (λ seen. AreDestinations handler.now.image.now handler.now.statement
         handler.now.graph handler.now.tree given.now seen.destinations.items) }
+    ensures outside { IfOk result (λ seen. AreOutside handler.now.image.now handler.now.statement
+        handler.now.graph handler.now.tree given.now seen.outside.items) }
 {
     let table = proposed(alloc, handler, given)?;
     let left = left_on_trust(alloc, handler, given, &table)?;
     let destinations = destinations_of(alloc, handler, given, &table)?;
-    Ok(Seen { left, destinations })
+    let outside = outside_of(alloc, handler, given, &table)?;
+    Ok(Seen {
+        left,
+        destinations,
+        outside,
+    })
 }
 
 fn text_of(alloc: Global, read: &Source<'_>, summary: Summary<'_>) -> Result<Vec<u8>, AllocError>
@@ -129,7 +157,13 @@ fn handler_justified(
 {
     let found = longest_of(alloc, handler)?;
     let seen = seen_of(alloc, handler, justified.given)?;
-    let rows = stated_rows(alloc, handler, &seen.left, &seen.destinations)?;
+    let rows = stated_rows(
+        alloc,
+        handler,
+        &seen.left,
+        &seen.destinations,
+        &seen.outside,
+    )?;
     graphs_are_well_formed(&handler.graph);
     run_law();
     let summary = Summary {

@@ -5,6 +5,7 @@
 mod classed;
 mod justify;
 mod law;
+mod outside;
 mod returns;
 mod row_texts;
 mod rows;

@@ -15,11 +15,11 @@ ghost use Rattle.text_explained.specs.Taken.{is_reached};
 ghost use Rattle.known_places.specs.Destinations.{destination_at};
 ghost use Rattle.justify_reports.specs.Returns.{AreFound, AreReturns, HasReturn, IsReturn, going_back};
 ghost use Rattle.justify_reports.specs.Returns.{going_of, going_out, going_by, gravity, graver};
-ghost use Rattle.justify_reports.specs.Returns.{is_leave, leaves};
+ghost use Rattle.justify_reports.specs.Returns.{is_leave, is_of, is_outside, leaves};
 
 use crate::classed::{add, sorted};
 use arm2_decode::Instr;
-use bus_ticks::ahead_of;
+use bus_ticks::{Class, ahead_of};
 use control_flow::{Calls, Place, may_do};
 use image::Image;
 use known_places::Destination;
@@ -66,17 +66,29 @@ fn leaves(target: Option<&Target>) -> bool
     }
 }
 
-fn going_out(image: &Image, stated: bool, destination: Destination) -> Going
-    ensures { result ≡ going_out image.now stated destination }
+fn is_of(class: Class, address: u32) -> bool
+    ensures { result ≡ is_of class address }
+{
+    class.is_of(address)
+}
+
+fn is_outside(image: &Image, leave: Class, stated: bool, address: u32) -> bool
+    ensures { result ≡ is_outside image.now leave stated address }
+{
+    is_of(leave, address) && (stated || !image.word_at(address).is_some())
+}
+
+fn going_out(image: &Image, leave: Class, stated: bool, destination: Destination) -> Going
+    ensures { result ≡ going_out image.now leave stated destination }
 {
     match destination {
         Destination::Unknown => Going::Unseen,
         Destination::LinkLess(bytes) => Going::Back(bytes),
         Destination::To(address) => {
-            if !stated && image.word_at(address).is_some() {
-                Going::Elsewhere(address)
-            } else {
+            if is_outside(image, leave, stated, address) {
                 Going::Out(address)
+            } else {
+                Going::Elsewhere(address)
             }
         }
     }
@@ -107,27 +119,34 @@ fn return_place(calls: &Calls) -> Place
     }
 }
 
-fn going_by(image: &Image, stated: bool, place: Place, destination: Destination) -> Going
-    ensures { result ≡ going_by image.now stated place destination }
+fn going_by(
+    image: &Image,
+    leave: Class,
+    stated: bool,
+    place: Place,
+    destination: Destination,
+) -> Going
+    ensures { result ≡ going_by image.now leave stated place destination }
 {
     match place {
-        Place::Exit => going_out(image, stated, destination),
+        Place::Exit => going_out(image, leave, stated, destination),
         Place::At(_, next) => going_back(next, destination),
     }
 }
 
 fn going_of(
     image: &Image,
+    leave: Class,
     target: Option<&Target>,
     calls: &Calls,
     destination: Destination,
 ) -> Going
-    ensures { result ≡ going_of image.now (option_map (λ t. t.now) target.entry) calls.now destination }
+    ensures { result ≡ going_of image.now leave (option_map (λ t. t.now) target.entry) calls.now destination }
 {
     if leaves(target) {
-        return going_out(image, true, destination);
+        return going_out(image, leave, true, destination);
     }
-    going_by(image, false, return_place(calls), destination)
+    going_by(image, leave, false, return_place(calls), destination)
 }
 
 // ## Which words return
@@ -277,9 +296,10 @@ fn put_going(
     if !has_return(handler.image, &handler.statement, address) {
         return Ok(());
     }
+    let leave = handler.statement.leave();
     let target = handler.statement.target_at(address);
     let destination = destination_at(destinations, number);
-    let going = going_of(handler.image, target, &calls, destination);
+    let going = going_of(handler.image, leave, target, &calls, destination);
     put_graver(found, address, going)
 }
 

@@ -7,13 +7,14 @@ ghost use Rattle.asm_text.specs.Appended.{Appends};
 ghost use Rattle.sources.specs.Lines.{AreLines};
 ghost use Rattle.text_rows.specs.WordLines.{numbered_at};
 ghost use Rattle.justify_reports.specs.RowTexts.{AreRowTexts, IsEnd, IsRowText, IsWordEnd, front_text};
-ghost use Rattle.justify_reports.specs.RowTexts.{going_text, kind_text, link_text, stated_text};
-ghost use Rattle.justify_reports.specs.RowTexts.{verdict_text};
+ghost use Rattle.justify_reports.specs.RowTexts.{going_text, kind_text, link_text, range_text, reach_text};
+ghost use Rattle.justify_reports.specs.RowTexts.{stated_text, verdict_text};
 
 use crate::returns::Going;
-use crate::rows::{Entry, Row, Verdict};
+use crate::rows::{Entry, Reach, Row, Verdict};
 use asm_text::hex8;
 use image::Image;
+use known_words::Range;
 use sources::Source;
 use statement::class_name;
 use std::alloc::{AllocError, Global};
@@ -86,13 +87,40 @@ fn put_going(out: &mut Vec<u8>, going: Going) -> Result<(), AllocError>
     }
 }
 
-// Adds what an entry states, or where a return goes.
+fn put_span(out: &mut Vec<u8>, low: u32, high: u32) -> Result<(), AllocError>
+    ensures { OnOk result (out.new.items ≡ out.old.items ++ (hex8 low ++ (codes "-" ++ hex8 high))) }
+{
+    put(out, &hex8(low))?;
+    put(out, b"-")?;
+    put(out, &hex8(high))
+}
+
+fn put_range(out: &mut Vec<u8>, range: Range) -> Result<(), AllocError>
+    ensures { OnOk result (out.new.items ≡ out.old.items ++ range_text range) }
+{
+    if range.low == range.high {
+        return put_to(out, range.low);
+    }
+    put_span(out, range.low, range.high)
+}
+
+// Adds the class of a word, or where it goes outside of that.
+fn put_reach(out: &mut Vec<u8>, reach: Reach) -> Result<(), AllocError>
+    ensures { OnOk result (out.new.items ≡ out.old.items ++ reach_text reach) }
+{
+    match reach {
+        Reach::Of(class) => put(out, class_name(class).as_bytes()),
+        Reach::Outside(range) => put_range(out, range),
+    }
+}
+
+// Adds what an entry states, or where a word goes.
 fn put_stated(out: &mut Vec<u8>, entry: Entry) -> Result<(), AllocError>
     ensures { OnOk result (out.new.items ≡ out.old.items ++ stated_text entry) }
 {
     match entry {
-        Entry::Access(class) => put(out, class_name(class).as_bytes()),
-        Entry::Base(class) => put(out, class_name(class).as_bytes()),
+        Entry::Access(reach) => put_reach(out, reach),
+        Entry::Base(reach) => put_reach(out, reach),
         Entry::Return(going) => put_going(out, going),
         Entry::Loop(bound) => put_most(out, bound),
     }

@@ -1,36 +1,48 @@
 //! A row for each entry of a statement that may follow from the code.
 
-ghost use Rattle.std.specs.Prelude.{◌≡◌, ◌∷◌, [], IfOk, OnOk, is_some, nat_eq, unwrap_or};
+ghost use Rattle.std.specs.Prelude.{◌≡◌, ◌∷◌, [], IfOk, None, OnOk, is_some, length, nat_eq, unwrap_or};
 ghost use Rattle.std.specs.BTreeMap.{get};
 ghost use Rattle.std.specs.Map.{lookup};
 ghost use Rattle.std.specs.Ordering.{nat_cmp};
 ghost use Rattle.asm_text.specs.Appended.{Appends};
 ghost use Rattle.loop_bounds.specs.Handler.{HasItsTree};
 ghost use Rattle.justify_reports.specs.Rows.{AreClassRows, AreLoopRows, AreStatedRows, IsClassAt, IsClassRow};
-ghost use Rattle.justify_reports.specs.Rows.{AreFoundRows, AreReturnRows, by_trust, entry_of, loop_row};
-ghost use Rattle.justify_reports.specs.Rows.{return_row, verdict_of};
+ghost use Rattle.justify_reports.specs.Outside.{AreFoundOutside};
+ghost use Rattle.justify_reports.specs.Rows.{AreFoundRows, AreReturnRows, by_trust, class_verdict, entry_of};
+ghost use Rattle.justify_reports.specs.Rows.{loop_row, reach_of, return_row, verdict_of};
 ghost use Rattle.justify_reports.specs.TrustSets.{AreSetsOf};
 
 use crate::classed::classed;
+use crate::outside::ranges_outside;
 use crate::returns::{Going, goings, return_addresses};
 use crate::trusted::TrustSets;
 use bus_ticks::Class;
 use control_flow::base_of;
 use image::Image;
 use known_places::{Destination, OnTrust};
+use known_words::Range;
 use loop_bounds::Handler;
 use statement::{Loop, Statement};
 use std::alloc::{AllocError, Global};
 use std::collections::BTreeMap;
 use word_shapes::instr_at;
 
+/// What a row says of a word's class.
+#[derive(Clone, Copy)]
+pub(crate) enum Reach {
+    /// The class that is stated.
+    Of(Class),
+    /// A range in which the word, each time, loads or stores at an address that is not of the class.
+    Outside(Range),
+}
+
 /// An entry of a statement.
 #[derive(Clone, Copy)]
 pub(crate) enum Entry {
     /// The class that a word's own entry states.
-    Access(Class),
+    Access(Reach),
     /// The class that a rule for a base register states of a word.
-    Base(Class),
+    Base(Reach),
     /// Where a word goes that returns or leaves: that it does is stated of it, or nothing is.
     Return(Going),
     /// The most back edges that a stay in a loop takes.
@@ -42,7 +54,7 @@ pub(crate) enum Entry {
 pub(crate) enum Verdict {
     Follows,
     OnTrust,
-    /// Where it is done, it goes elsewhere than it is taken to go.
+    /// Where it is done, it goes elsewhere than it is taken to go, or outside of its class.
     False,
 }
 
@@ -54,11 +66,14 @@ pub(crate) struct Row {
     pub(crate) verdict: Verdict,
 }
 
-// What is left on trust, and the same to be looked up.
+// What is left on trust, and where the words of the places go outside of their classes; and both to be looked
+// up.
 #[derive(Clone, Copy)]
 struct Left<'a> {
     trusted: &'a Option<OnTrust>,
     sets: &'a TrustSets,
+    outside: &'a [Option<Range>],
+    ranges: &'a BTreeMap<u32, Option<Range>>,
 }
 
 // The class that is stated of what the word at an address transfers.
@@ -77,13 +92,13 @@ fn has_access(statement: &Statement, at: u32) -> bool
     statement.accesses().contains_key(&at)
 }
 
-fn entry_of(statement: &Statement, at: u32, class: Class) -> Entry
-    ensures { result ≡ entry_of statement.now at class }
+fn entry_of(statement: &Statement, at: u32, reach: Reach) -> Entry
+    ensures { result ≡ entry_of statement.now at reach }
 {
     if has_access(statement, at) {
-        Entry::Access(class)
+        Entry::Access(reach)
     } else {
-        Entry::Base(class)
+        Entry::Base(reach)
     }
 }
 
@@ -97,15 +112,54 @@ fn by_trust(on_trust: bool) -> Verdict
     }
 }
 
+fn class_verdict(trusted: bool, range: Option<Range>) -> Verdict
+    ensures { result ≡ class_verdict trusted range }
+{
+    if !trusted {
+        return Verdict::Follows;
+    }
+    match range {
+        Some(_) => Verdict::False,
+        None => Verdict::OnTrust,
+    }
+}
+
+fn reach_of(class: Class, trusted: bool, range: Option<Range>) -> Reach
+    ensures { result ≡ reach_of class trusted range }
+{
+    if !trusted {
+        return Reach::Of(class);
+    }
+    match range {
+        Some(range) => Reach::Outside(range),
+        None => Reach::Of(class),
+    }
+}
+
+// Where the word at an address goes outside of its class, which may have no place.
+fn range_here(ranges: &BTreeMap<u32, Option<Range>>, at: u32) -> Option<Range>
+    ensures { result ≡ unwrap_or (get nat_cmp ranges.now at) None }
+{
+    match ranges.get(&at) {
+        Some(range) => *range,
+        None => None,
+    }
+}
+
 fn class_row(handler: &Handler<'_>, left: Left<'_>, at: u32) -> Row
-    requires { AreSetsOf left.trusted.now left.sets.now }
-    ensures { IsClassRow handler.now.image.now handler.now.statement left.entry.trusted.now at result }
+    requires sets { AreSetsOf left.trusted.now left.sets.now }
+    requires ranges { AreFoundOutside handler.now.graph handler.now.tree left.outside.now
+        (length handler.now.graph.places) (get nat_cmp left.ranges.now) }
+    ensures { IsClassRow handler.now.image.now handler.now.statement handler.now.graph handler.now.tree
+        left.entry.trusted.now left.entry.outside.now at result }
 {
     let class = class_here(handler.image, &handler.statement, at);
+    let trusted = left.sets.has_class(at);
+    let range = range_here(left.ranges, at);
     Row {
-        entry: entry_of(&handler.statement, at, class),
+        entry: entry_of(&handler.statement, at, reach_of(class, trusted, range)),
         at,
-        verdict: by_trust(left.sets.has_class(at)),
+        verdict: class_verdict(trusted, range),
     }
 }
 
@@ -115,10 +169,13 @@ fn put_class_row(
     left: Left<'_>,
     at: u32,
 ) -> Result<(), AllocError>
-    requires { AreSetsOf left.trusted.now left.sets.now }
+    requires sets { AreSetsOf left.trusted.now left.sets.now }
+    requires ranges { AreFoundOutside handler.now.graph handler.now.tree left.outside.now
+        (length handler.now.graph.places) (get nat_cmp left.ranges.now) }
     ensures { OnOk result
         (Appends (λ part. (row : Row) × IsClassRow handler.now.image.now handler.now.statement
-        left.entry.trusted.now at row × (part ≡ row ∷ [])) rows.old.items rows.new.items) }
+        handler.now.graph handler.now.tree left.entry.trusted.now left.entry.outside.now at row
+        × (part ≡ row ∷ [])) rows.old.items rows.new.items) }
 {
     let row = class_row(handler, left, at);
     rows.push(row)?;
@@ -131,10 +188,12 @@ fn put_class_rows(
     left: Left<'_>,
     named: &[u32],
 ) -> Result<(), AllocError>
-    requires { AreSetsOf left.trusted.now left.sets.now }
+    requires sets { AreSetsOf left.trusted.now left.sets.now }
+    requires ranges { AreFoundOutside handler.now.graph handler.now.tree left.outside.now
+        (length handler.now.graph.places) (get nat_cmp left.ranges.now) }
     ensures { OnOk result
-        (Appends (AreClassRows handler.now.image.now handler.now.statement left.entry.trusted.now named.now)
-        rows.old.items rows.new.items) }
+        (Appends (AreClassRows handler.now.image.now handler.now.statement handler.now.graph handler.now.tree
+        left.entry.trusted.now left.entry.outside.now named.now) rows.old.items rows.new.items) }
 {
     for at in named {
         put_class_row(rows, handler, left, *at)?;
@@ -251,7 +310,7 @@ fn put_loop_rows(rows: &mut Vec<Row>, left: Left<'_>, loops: &[Loop]) -> Result<
 }
 
 /// The rows of a handler's statement, by what is left on trust: where that is `None`, all is; and by where
-/// the word of each place goes. The classes come first and then the returns, both by their words' addresses,
+/// the word of each place goes, and where it goes outside of its class. The classes come first and then the returns, both by their words' addresses,
 /// and then the loops in the statement's order.
 ///
 /// Its time is that of sorting the words.
@@ -264,17 +323,21 @@ pub(crate) fn stated_rows(
     handler: &Handler<'_>,
     trusted: &Option<OnTrust>,
     destinations: &[Destination],
+    outside: &[Option<Range>],
 ) -> Result<Vec<Row>, AllocError>
     requires { HasItsTree handler.now }
     ensures { IfOk result
         (λ rows. AreStatedRows handler.now.image.now handler.now.statement handler.now.graph handler.now.tree
-        trusted.now destinations.now rows.items) }
+        trusted.now destinations.now outside.now rows.items) }
 {
     let sets = TrustSets::of(alloc, trusted)?;
+    let ranges = ranges_outside(alloc, handler, outside)?;
     let named = classed(alloc, handler, trusted)?;
     let left = Left {
         trusted,
         sets: &sets,
+        outside,
+        ranges: &ranges,
     };
     let mut rows = Vec::new(alloc);
     put_class_rows(&mut rows, handler, left, &named)?;

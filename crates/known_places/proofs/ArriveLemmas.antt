@@ -1,8 +1,8 @@
 -- One step of a run, by a table that holds along each edge.
-use Rattle.std.proofs.Common.{◌≡◌, ◌∙◌, ℕ, ◌+◌, ◌<◌, ◌≤◌, Bool, true, false, cond, List, [], ◌∷◌, ◌++◌, length, refl, sym, ap, subst, arith}
+use Rattle.std.proofs.Common.{◌≡◌, ◌∙◌, ℕ, ◌+◌, ◌<◌, ◌≤◌, Bool, true, false, cond, List, [], ◌∷◌, ◌++◌, length, append-nil, refl, sym, ap, subst, arith}
 use Rattle.std.specs.Prelude.{Contains, get_or}
 use Rattle.std.proofs.lemmas.List.{get_or_default}
-use Rattle.std.proofs.lemmas.List.Elements.{Contains-get_or}
+use Rattle.std.proofs.lemmas.List.Elements.{All-append, All-cons, All-nil, Contains-get_or}
 use Rattle.walks.specs.Walk.{Leads}
 use Rattle.image.specs.Image.{Words}
 use Rattle.statement.specs.Stated.{Stated}
@@ -22,12 +22,13 @@ use Rattle.control_flow.specs.declared.places.Place.{Place}
 use Rattle.control_flow.specs.declared.places.Place.TheVariants.{At}
 use Rattle.control_flow.proofs.Firsts.{no_edge}
 use Rattle.flow_graph.proofs.StepLemmas.{IsPlainStep, plain_step, works_plain}
-use Rattle.numbered_walks.specs.Index.{edge_at}
+use Rattle.kept_runs.proofs.SoFar.{map_append, next_to}
+use Rattle.numbered_walks.specs.Index.{edge_at, edges_of}
 use Rattle.numbered_walks.specs.declared.span.NumberedEdge.{NumberedEdge}
 use Rattle.numbered_walks.proofs.Members.{no_numbered_edge}
 use Rattle.loop_bounds.specs.Tree.{IsTree, Tree, place_in}
-use Rattle.longest_walk.specs.Built.{step_at}
-use Rattle.longest_walk.proofs.CarryWalks.{edge_same, number_is}
+use Rattle.longest_walk.specs.Built.{step_at, steps_of}
+use Rattle.longest_walk.proofs.CarryWalks.{AreNumbersOf, edge_same, number_is}
 use Rattle.known_words.specs.Knowledge.{Holds}
 use Rattle.known_words.specs.declared.given.Given.{Given}
 use Rattle.known_words.specs.declared.knowledge.Knowledge.{Knowledge}
@@ -133,37 +134,54 @@ module _ (words : Words) (st : Stated) (flow : Flow) (tree : Tree) (well : IsWel
 
   -- ## Runs
 
-  -- where a run has come
-  pub record Ends (end : Place) (now : State) : Type 0 where
+  -- where a run has come along a walk, with the numbers of its edges
+  pub record Ends (walk : List Edge) (end : Place) (now : State) : Type 0 where
     pub number : ℕ
     pub within : number ≤ length flow.places
     pub place : place_in flow tree number ≡ end
-    pub walk : List NumberedEdge
-    pub there : IsThere number walk now
+    pub edges : List ℕ
+    pub inside : AreNumbersOf flow edges
+    pub steps : steps_of flow.edges edges ≡ walk
+    pub there : IsThere number (edges_of tree.edges edges) now
 
-  pub ends_there : (inputs : List Input) (walk : List Edge) (s now : State) (number : ℕ) (end : Place) (w : List NumberedEdge) → number ≤ length flow.places
-      → IsThere number w s → Leads edge_shape (HasEdge flow) (place_in flow tree number) walk end
-      → ComesOnTrust words st flow.profile trusted s inputs walk now → Ends end now
-  ends_there [] [] s now number end w within holds leads comes =
-      record { number = number; within = within; place = leads; walk = w; there = subst (IsThere number w) (sym comes) holds }
-  ends_there [] (e ∷ walk) s now number end w within holds leads comes = absurd comes
-  ends_there (i ∷ inputs) [] s now number end w within holds leads comes = absurd comes
-  ends_there (i ∷ inputs) (e ∷ walk) s now number end w within holds (has, from, rest) (stepped, next, edge, on) =
-      let a = arrives w s i stepped next e edge number within (sym from) holds has in
-      ends_there inputs walk next now (edge_at tree.edges a.number).to end (w ++ edge_at tree.edges a.number ∷ []) a.within a.there
-      (subst (λ (v : Place). Leads edge_shape (HasEdge flow) v walk end) (sym a.place) rest) on
+  pub ends_there : (inputs : List Input) (walk : List Edge) (s now : State) (number : ℕ) (end : Place) (ks : List ℕ) → number ≤ length flow.places
+      → AreNumbersOf flow ks → IsThere number (edges_of tree.edges ks) s → Leads edge_shape (HasEdge flow) (place_in flow tree number) walk end
+      → ComesOnTrust words st flow.profile trusted s inputs walk now → Ends (steps_of flow.edges ks ++ walk) end now
+  ends_there [] [] s now number end ks within ins holds leads comes = record {
+    number = number;
+    within = within;
+    place = leads;
+    edges = ks;
+    inside = ins;
+    steps = sym (append-nil (steps_of flow.edges ks));
+    there = subst (IsThere number (edges_of tree.edges ks)) (sym comes) holds;
+  }
+  ends_there [] (e ∷ walk) s now number end ks within ins holds leads comes = absurd comes
+  ends_there (i ∷ inputs) [] s now number end ks within ins holds leads comes = absurd comes
+  ends_there (i ∷ inputs) (e ∷ walk) s now number end ks within ins holds (has, from, rest) (stepped, next, edge, on) =
+      let a = arrives (edges_of tree.edges ks) s i stepped next e edge number within (sym from) holds has in
+      let down : edges_of tree.edges (ks ++ a.number ∷ []) ≡ edges_of tree.edges ks ++ edge_at tree.edges a.number ∷ [] = map_append (edge_at tree.edges) ks (a.number ∷ []) in
+      let up : steps_of flow.edges (ks ++ a.number ∷ []) ++ walk ≡ steps_of flow.edges ks ++ e ∷ walk =
+      ap (λ (v : List Edge). v ++ walk) (map_append (step_at flow.edges) ks (a.number ∷ []))
+      ∙ next_to (steps_of flow.edges ks) (step_at flow.edges a.number) walk
+      ∙ ap (λ (d : Edge). steps_of flow.edges ks ++ d ∷ walk) a.edge_is in
+      subst (λ (v : List Edge). Ends v end now) up
+      (ends_there inputs walk next now (edge_at tree.edges a.number).to end (ks ++ a.number ∷ []) a.within
+      (All-append (λ j. j < length flow.edges) ks (a.number ∷ []) ins (All-cons (λ j. j < length flow.edges) a.number [] a.number_in (All-nil (λ j. j < length flow.edges))))
+      (subst (λ w. IsThere (edge_at tree.edges a.number).to w next) (sym down) a.there)
+      (subst (λ (v : Place). Leads edge_shape (HasEdge flow) v walk end) (sym a.place) rest) on)
 
 -- where the word of each place goes
 pub gone_to : (words : Words) (st : Stated) (flow : Flow) (tree : Tree) → IsWellFormed flow → IsTree flow tree → (given : List Given) (around : List Around) (table : List Knowledge)
     → HoldsAlong words flow tree given around table → (number : ℕ) → number < length flow.places → (destination : Destination)
     → PlaceGoesTo words flow tree table number destination → GoesTo words st flow given (place_in flow tree number) destination
 gone_to words st flow tree well t given around table p number low destination goes s now after inputs walk calls action i stepped fit are leads comes at x done =
-    let e = ends_there words st flow tree well t given around table p [] s.regs inputs walk s now 0 (place_in flow tree number) [] (omega arith)
+    let e = ends_there words st flow tree well t given around table p [] s.regs inputs walk s now 0 (place_in flow tree number) [] (omega arith) (All-nil (λ j. j < length flow.edges))
     (λ inside. p.begins s.regs fit are) (subst (λ (v : Place). Leads edge_shape (HasEdge flow) v walk (place_in flow tree number)) (sym t.entry_first) leads) comes in
     let same : e.number ≡ number = number_is flow tree well t e.number number e.within (omega (arith, low)) e.place in
-    let known : Holds s.regs (turns_in tree.spans (around_at around number) e.walk) (known_at table number) now.regs =
-    subst (λ n. Holds s.regs (turns_in tree.spans (around_at around n) e.walk) (known_at table n) now.regs) same (e.there (omega (arith, low, same))) in
+    let known : Holds s.regs (turns_in tree.spans (around_at around number) (edges_of tree.edges e.edges)) (known_at table number) now.regs =
+    subst (λ n. Holds s.regs (turns_in tree.spans (around_at around n) (edges_of tree.edges e.edges)) (known_at table n) now.regs) same (e.there (omega (arith, low, same))) in
     let plain = plain_is words st flow.profile [] now i stepped after action x in
     subst (IsDestination s.regs destination) (sym plain.to)
-    (goes calls (address_in now.regs) x.has.word at x.has.word_is s.regs (turns_in tree.spans (around_at around number) e.walk) now.regs i.port (with_lines i.lines.0 now.bus)
+    (goes calls (address_in now.regs) x.has.word at x.has.word_is s.regs (turns_in tree.spans (around_at around number) (edges_of tree.edges e.edges)) now.regs i.port (with_lines i.lines.0 now.bus)
     x.step.moved action x.registers refl x.has.is done (obeys words st flow.profile [] now i stepped after action x) plain.kind known)

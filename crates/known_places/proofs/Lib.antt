@@ -4,3 +4,5 @@ mod LimitLemmas
 mod TableLemmas
 mod ArriveLemmas
 mod RunLemmas
+mod OutsideLemmas
+mod NotKeptLemmas

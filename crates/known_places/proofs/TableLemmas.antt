@@ -3,7 +3,7 @@ use Rattle.std.proofs.Common.{◌≡◌, ◌∙◌, ℕ, ◌+◌, ◌<◌, ◌�
 use Rattle.std.proofs.Math.Seq.{get_or-append_seam}
 use Rattle.std.proofs.lemmas.Bool.{cases_lt}
 use Rattle.std.proofs.lemmas.List.{get_or_append_left}
-use Rattle.std.specs.Prelude.{Contains}
+use Rattle.std.specs.Prelude.{Contains, slice_index_or}
 use Rattle.std.proofs.lemmas.List.Elements.{Contains-append_left, Contains-append_right}
 use Rattle.std.proofs.lemmas.Option.{same_Some}
 use Rattle.control_flow.proofs.SortedLemmas.{here}
@@ -22,10 +22,11 @@ use Rattle.longest_walk.specs.Built.{step_at}
 use Rattle.numbered_walks.specs.Index.{edge_at}
 use Rattle.numbered_walks.specs.declared.span.NumberedEdge.{NumberedEdge}
 use Rattle.known_words.specs.declared.knowledge.Knowledge.{Knowledge}
+use Rattle.known_words.specs.declared.words.Range.{Range}
 use Rattle.known_places.specs.Around.{around_at, known_at}
-use Rattle.known_places.specs.Destinations.{PlaceGoesTo, WordGoesTo, destination_at}
+use Rattle.known_places.specs.Destinations.{PlaceGoesTo, WordGoesTo}
+use Rattle.known_places.specs.Outside.{GoesOutsideWithin, PlaceGoesOutside}
 use Rattle.known_places.specs.declared.destination.Destination.{Destination}
-use Rattle.known_places.specs.declared.destination.Destination.TheVariants.{Unknown}
 use Rattle.known_places.specs.Table.{EdgeKeeps, KeepsAlong, StaysAt}
 use Rattle.known_places.specs.declared.around.Around.{Around}
 use Rattle.known_places.specs.Words.{Carries, StaysWithin}
@@ -81,6 +82,18 @@ module _ (words : Words) (flow : Flow) (tree : Tree) (around : List Around) (tab
         by_case (inl has) = inl (Contains-append_right trusted more a has)
         by_case (inr other) = inr other
 
+    pub outside_known : (number : ℕ) (calls : List ℕ) (address word : ℕ) (range : Range) → place_in flow tree number ≡ At calls address
+        → word_of words address ≡ Some word
+        → ((action : Action) → IsAction word action
+        → GoesOutsideWithin tree.spans (around_at around number) (class_at st address action.base) word address action (known_at table number) range)
+        → PlaceGoesOutside words st flow tree around table number range
+    outside_known number calls address word range place has goes others a w action is also acts =
+        let at : address ≡ a = ap place_address (sym place ∙ is) in
+        let same : w ≡ word = sym (one_word words address a word w at has also) in
+        subst (λ n. GoesOutsideWithin tree.spans (around_at around number) (class_at st n action.base) w n action (known_at table number) range) at
+        (subst (λ v. GoesOutsideWithin tree.spans (around_at around number) (class_at st address action.base) v address action (known_at table number) range) (sym same)
+        (goes action (subst (λ v. IsAction v action) same acts)))
+
 pub goes_there : (words : Words) (flow : Flow) (tree : Tree) (table : List Knowledge) (number : ℕ) (calls : List ℕ) (address word : ℕ)
     → place_in flow tree number ≡ At calls address → word_of words address ≡ Some word → (d : Destination)
     → WordGoesTo word address (known_at table number) d → PlaceGoesTo words flow tree table number d
@@ -89,21 +102,21 @@ goes_there words flow tree table number calls address word place has d goes othe
     subst (λ n. WordGoesTo w n (known_at table number) d) at
     (subst (λ v. WordGoesTo v address (known_at table number) d) (one_word words address a word w at has also) goes)
 
--- one destination more
-pub destinations_more : (Goes : ℕ → Destination → Type 0) (old new : List Destination) (number : ℕ) (d : Destination) → length old ≡ number
-    → ((k : ℕ) → k < number → Goes k (destination_at old k)) → new ≡ old ++ d ∷ [] → Goes number d
-    → (length new ≡ number + 1) × ((k : ℕ) → k < number + 1 → Goes k (destination_at new k))
-destinations_more Goes old new number d whole goes is there =
-    let longer : length new ≡ length (old ++ d ∷ []) = ap length is in
-    let at_end : destination_at (old ++ d ∷ []) number ≡ d =
-    ap (destination_at (old ++ d ∷ [])) (sym whole) ∙ get_or-append_seam old d [] Unknown in (
-      omega (arith, longer, length-append old (d ∷ []), whole),
-      λ k lt. subst (λ (ds : List Destination). Goes k (destination_at ds k)) (sym is)
+-- one more of a list by numbers
+pub one_more : {X : Type 0} (default : X) (Goes : ℕ → X → Type 0) (old new : List X) (number : ℕ) (x : X) → length old ≡ number
+    → ((k : ℕ) → k < number → Goes k (slice_index_or old k default)) → new ≡ old ++ x ∷ [] → Goes number x
+    → (length new ≡ number + 1) × ((k : ℕ) → k < number + 1 → Goes k (slice_index_or new k default))
+one_more {X} default Goes old new number x whole goes is there =
+    let longer : length new ≡ length (old ++ x ∷ []) = ap (λ (xs : List X). length xs) is in
+    let at_end : slice_index_or (old ++ x ∷ []) number default ≡ x =
+    ap (λ n. slice_index_or (old ++ x ∷ []) n default) (sym whole) ∙ get_or-append_seam old x [] default in (
+      omega (arith, longer, length-append old (x ∷ []), whole),
+      λ k lt. subst (λ (xs : List X). Goes k (slice_index_or xs k default)) (sym is)
           (⊎_elim
           (λ (less : k < number).
-          subst (Goes k) (sym (get_or_append_left old (d ∷ []) Unknown k (omega (arith, less, whole)))) (goes k less))
+          subst (Goes k) (sym (get_or_append_left old (x ∷ []) default k (omega (arith, less, whole)))) (goes k less))
           (λ (more : number ≤ k).
           let same : number ≡ k = omega (arith, lt, more) in
-          subst (λ n. Goes n (destination_at (old ++ d ∷ []) n)) same (subst (Goes number) (sym at_end) there))
+          subst (λ n. Goes n (slice_index_or (old ++ x ∷ []) n default)) same (subst (Goes number) (sym at_end) there))
           (cases_lt k number)),
     )

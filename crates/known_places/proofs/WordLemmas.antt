@@ -1,6 +1,8 @@
 -- What is known after a word, and of what class its transfers are.
-use Rattle.std.proofs.Common.{◌≡◌, ◌∙◌, ℕ, ◌⊎◌, inl, inr, Bool, true, false, cond, List, length, Option, Some, None, refl, sym, ap, subst}
+use Rattle.std.proofs.Common.{◌≡◌, ◌∙◌, ℕ, ◌⊎◌, inl, inr, Bool, true, false, cond, List, length, Option, Some, None, ◌≤◌, refl, sym, ap, subst, arith}
 use Rattle.std.specs.Prelude.{IfSome}
+use Rattle.bus_ticks.specs.Prices.{word_address}
+use Rattle.bus_ticks.specs.Worst.{IsOf}
 use Rattle.bus_ticks.specs.declared.profile.Class.{Class}
 use Rattle.arm2_decode.specs.Conditions.{condition_holds}
 use Rattle.arm2_decode.specs.Table.{IsUnallocated, Means}
@@ -33,14 +35,18 @@ use Rattle.control_flow.specs.declared.edges.Label.{Label}
 use Rattle.control_flow.specs.declared.edges.Label.TheVariants.{Do, Skip}
 use Rattle.flow_graph.specs.StepLaw.{TransfersIn, holds_in, label_in}
 use Rattle.kept_runs.specs.Reading.{instr_reading, transfer_if, unallocated_reading}
-use Rattle.kept_runs.specs.Transfers.{HasNoOther, words_of}
+use Rattle.kept_runs.specs.Transfers.{HasNoOther, HasOther, words_of}
+use Rattle.kept_runs.specs.declared.transfers.Access as wanted
+use Rattle.kept_runs.specs.declared.transfers.Transfer.{Transfer}
 use Rattle.kept_runs.proofs.MovedLemmas.{Moves, word_moves}
 use Rattle.known_words.specs.After.{After}
 use Rattle.known_words.specs.Knowledge.{Holds}
 use Rattle.known_words.specs.declared.knowledge.Knowledge.{Knowledge}
+use Rattle.known_words.specs.declared.words.Range.{Range}
 use Rattle.known_words.proofs.ForgetLemmas.{skipped_holds}
 use Rattle.known_places.specs.Words.{Carries, MovesIn, StaysIn}
 use Rattle.known_places.specs.Destinations.{IsDestination, JumpsTo, WordGoesTo}
+use Rattle.known_places.specs.Outside.{BeginsOutside, HasOutside, MovesOutside, WordGoesOutside}
 use Rattle.known_places.specs.declared.destination.Destination.{Destination}
 
 -- ## Labels
@@ -132,6 +138,49 @@ pub unallocated_stays : (class : Class) (word address : ℕ) (known : Knowledge)
     → StaysIn class word address known
 unallocated_stays class word address known u none entry turns regs port bus m long at obeys plain holds =
     (word_moves class regs bus word port (unallocated_reading u regs) m (inr (u, none, refl)) obeys).in_class plain tt
+
+-- ## Outside of a class
+
+other_of : (class : Class) (t : Option Transfer) (access : wanted.Access) → HasOther class t access → IsOf class access.address → ⊥
+other_of class None access has of = has
+other_of class (Some t) access has of = has.1.other of
+
+-- a transfer of some words that begins outside
+pub begins_outside : (class : Class) (range : Range) (t : Transfer) → 1 ≤ t.words → BeginsOutside class range t.address → HasOutside class range (Some t)
+begins_outside class range t some b = record {
+  access = record { address = word_address t.address 0; store = t.store };
+  has = (
+    b.below,
+    record {
+      number = 0;
+      below = some;
+      address_is = refl;
+      store = refl;
+      before = λ i lt. absurd (omega (arith, lt));
+      other = b.other;
+    },
+  );
+  inside = b.inside;
+}
+
+pub instr_outside : (class : Class) (i : Instr) (address : ℕ) (before there : Knowledge) (range : Range)
+    → ((entry turns now : List ℕ) → condition_holds i.cond (flags_of (r15_in now)) ≡ true → Holds entry turns before now → Holds entry turns there now)
+    → MovesOutside class i.operation address there range → (word : ℕ) → Means word i → WordGoesOutside class word address before range
+instr_outside class i address before there range narrows moves word means entry turns regs port bus m action long at is label obeys plain holds =
+    let does : holds_in regs i.cond ≡ true =
+    ap (holds_in regs) (sym (action_cond word i action means is)) ∙ done_only (holds_in regs action.cond) label in
+    let h = moves entry turns regs at (narrows entry turns regs does holds) in
+    let has : HasOther class (transfer_if (holds_in regs i.cond) i.operation regs) h.access =
+    subst (λ (b : Bool). HasOther class (transfer_if b i.operation regs) h.access) (sym does) h.has in
+    let among = (word_moves class regs bus word port (instr_reading i regs) m (inl (i, means, refl)) obeys).there plain h.access has in
+    record {
+      store = h.access.store;
+      first = among.0;
+      address = h.access.address;
+      transferred = among.1;
+      inside = h.inside;
+      other = other_of class (words_of i.operation regs) h.access h.has;
+    }
 
 -- ## Destinations
 

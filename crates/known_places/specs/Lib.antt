@@ -4,3 +4,5 @@ pub mod Limits
 pub mod Words
 pub mod Table
 pub mod Destinations
+pub mod Outside
+pub mod Transfers

@@ -1,5 +1,6 @@
 //! What is known of the registers at each place of a handler, and which of the classes that are stated of its
-//! accesses, and of the bounds of its loops, follow from that; and where its words go that write R15.
+//! accesses, and of the bounds of its loops, follow from that; which classes none of its runs keeps; and where
+//! its words go that write R15.
 #![tactic(auto)]
 
 mod around;
@@ -8,6 +9,7 @@ mod headers;
 mod limits;
 mod loops;
 mod on_trust;
+mod outside;
 mod search;
 mod table;
 mod transfers;
@@ -16,5 +18,6 @@ mod word;
 
 pub use destination::{Destination, destinations};
 pub use on_trust::OnTrust;
+pub use outside::{outside_classes, outside_is_not_kept};
 pub use search::proposed;
 pub use table::left_on_trust;

@@ -1,12 +1,13 @@
 ghost use Rattle.std.specs.Prelude.{◌≡◌, ◌<◌, ℕ, IfSome, IsTrue};
 ghost use Rattle.arm2_decode.specs.Table.{Means};
+ghost use Rattle.known_places.specs.Outside.{WordGoesOutside};
 ghost use Rattle.known_places.specs.Words.{Carries, StaysIn};
 
-use crate::transfers::moves_in;
+use crate::transfers::{moves_in, moves_outside};
 use arm2_decode::{Instr, decode};
 use bus_ticks::Class;
 use control_flow::Label;
-use known_words::{Knowledge, after, narrowed};
+use known_words::{Knowledge, Range, after, narrowed};
 
 // What is known after an instruction.
 fn known_after_instr(
@@ -64,5 +65,38 @@ pub(crate) fn stays_in(class: Class, word: u32, address: u32, before: &Knowledge
     match decode(word) {
         Ok(instr) => instr_stays_in(class, &instr, address, before),
         Err(_) => true,
+    }
+}
+
+// Where the first word is that an instruction transfers, if it is seen to be outside of the class.
+fn instr_goes_outside(
+    class: Class,
+    instr: &Instr,
+    address: u32,
+    before: &Knowledge,
+) -> Option<Range>
+    ensures { (word : ℕ) → Means word instr.now
+        → IfSome result (WordGoesOutside class word address before.now) }
+{
+    moves_outside(
+        class,
+        &instr.operation,
+        address,
+        &narrowed(before, instr.cond, true),
+    )
+}
+
+/// Where the first word is that the word at the address transfers, if it is seen to be outside of the class.
+pub(crate) fn goes_outside(
+    class: Class,
+    word: u32,
+    address: u32,
+    before: &Knowledge,
+) -> Option<Range>
+    ensures { IfSome result (WordGoesOutside class word address before.now) }
+{
+    match decode(word) {
+        Ok(instr) => instr_goes_outside(class, &instr, address, before),
+        Err(_) => None,
     }
 }

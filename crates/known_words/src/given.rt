@@ -5,7 +5,7 @@ ghost use Rattle.known_words.specs.Known.{IsKnown};
 ghost use Rattle.known_words.specs.Knowledge.{AreWords, Holds};
 
 use crate::forgetting::learned;
-use crate::knowledge::{Knowledge, at_entry_in};
+use crate::knowledge::{Knowledge, at_entry_in, is_same};
 use crate::words::{Known, Range};
 use arm2_decode::Register;
 
@@ -18,7 +18,8 @@ pub struct Given {
     pub high: u32,
 }
 
-// The word of the register: a number, or still that of the register at the entry.
+// The word of the register: a number, or one from the least to the greatest, so that classes and counts can be
+// compared with it. That of R14 is still counted from the register at the entry, since returns are.
 fn known_by(given: Given) -> Known
     ensures { (entry turns : List ℕ) → current_in given.register entry < 2 ^ 32
         → given.low ≤ current_in given.register entry → current_in given.register entry ≤ given.high
@@ -26,6 +27,9 @@ fn known_by(given: Given) -> Known
 {
     if given.low == given.high {
         return Known::exactly(given.low);
+    }
+    if !is_same(given.register, Register::R14) {
+        return Known::between(given.low, given.high);
     }
     at_entry_in(
         given.register,

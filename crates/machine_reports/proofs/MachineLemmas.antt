@@ -7,11 +7,11 @@ use Rattle.image.specs.Image.{Words}
 use Rattle.image.specs.Labels.{Names}
 use Rattle.sources.specs.Source.{Said, source_of}
 use Rattle.handlers.specs.Placing.{IsRunnable}
-use Rattle.machine_reports.specs.Machine.{Front, IsMachineReport}
+use Rattle.machine_reports.specs.Machine.{End, Front, IsMachineReport}
 
 -- what is shown could be run
-pub runnable : (Shows : Front) (source machine : List ℕ) (profile : Profile) (done : Bool) (text : List ℕ) → IsMachineReport Shows source machine profile done text → IsRunnable source machine profile
-runnable Shows source machine profile done text h =
+pub runnable : (Shows : Front) (ends : End) (source machine : List ℕ) (profile : Profile) (done : Bool) (text : List ℕ) → IsMachineReport Shows ends source machine profile done text → IsRunnable source machine profile
+runnable Shows ends source machine profile done text h =
     record { file = h.loaded.file; state = h.state; placed = h.loaded.placed }
 
 pub none_is : (stopped : Option Why) (done : Bool) → is_some stopped ≡ not done → IsTrue done ↔ (stopped ≡ None)

@@ -16,9 +16,12 @@ use Rattle.arm2_exec.specs.declared.machine.Traced.{Traced}
 use Rattle.arm2_exec.proofs.RunLemmas.{added, at_end, at_stop}
 use Rattle.arm2_exec.proofs.StepLemmas.{one_step, stopped_same, stops}
 use Rattle.asm_text.specs.Appended.{Appends}
+use Rattle.json_trace.specs.Records.{RecordsRun, facts_of}
+use Rattle.json_trace.specs.StepLine.{IsStepLine, StepFacts}
+use Rattle.json_trace.proofs.RecordLaws.{FrontRecorded, records_stop}
 use Rattle.text_trace.specs.TraceText.{TracesRun}
 use Rattle.text_trace.proofs.RunLaws.{FrontPrinted, FrontRuns, front_runs, text_stops}
-use Rattle.machine_reports.specs.Machine.{ShowsSteps}
+use Rattle.machine_reports.specs.Machine.{ShowsRecords, ShowsSteps}
 use Rattle.machine_reports.specs.RunTo.{IsNextAfter, RunsTo, ShowsRunTo}
 
 -- a run has one end
@@ -99,6 +102,15 @@ module _ (to : ℕ) (start : State) (inputs : List Input) where
         (subst (TracesRun start (take n inputs ++ [])) (append-nil printed.0) (printed.1 [] [] refl)) in
         (printed.0, record { steps = n; runs = runs; shows = text }, printed.2)
 
+    -- the records of the steps
+    pub records_here : (old new : List ℕ) → Appends (FrontRecorded start inputs n ran now) old new
+        → RunsTo to start inputs n ran now → Appends (ShowsRunTo ShowsRecords to start inputs ran now) old new
+    records_here old new recorded runs =
+        let text : RecordsRun start (take n inputs) recorded.0 =
+        subst (λ (all : List Input). RecordsRun start all recorded.0) (append-nil (take n inputs))
+        (subst (RecordsRun start (take n inputs ++ [])) (append-nil recorded.0) (recorded.1 [] [] refl)) in
+        (recorded.0, record { steps = n; runs = runs; shows = text }, recorded.2)
+
     module _ (next : State) (i : Input) (other : ¬ (next_address now.regs ≡ to)) where
       -- the step at hand went on
       pub goes_on : (stepped : Stepped) → take (n + 1) inputs ≡ take n inputs ++ i ∷ []
@@ -167,5 +179,19 @@ module _ (to : ℕ) (start : State) (inputs : List Input) where
             word is (printed.0, printed.1 (i ∷ rest), printed.2) in
             let shows : TracesRun start (take (length inputs) inputs) text.0 =
             subst (λ (all : List Input). TracesRun start all text.0) (whole ∙ sym (take-length inputs))
+            text.1 in
+            (text.0, record { steps = length inputs; runs = is_stopped; shows = shows }, text.2)
+
+        pub records_stopped : (facts : StepFacts)
+            → facts ≡ facts_of ran.steps ran.elapsed now i traced.stepped next step
+            → (old mid new : List ℕ) → Appends (FrontRecorded start inputs n ran now) old mid
+            → Appends (IsStepLine facts) mid new
+            → Appends (ShowsRunTo ShowsRecords to start inputs stopped next) old new
+        records_stopped facts are old mid new recorded line =
+            let text =
+            records_stop start (take n inputs ++ i ∷ rest) ran now next (i ∷ rest) rest i traced.stepped refl step
+            facts are w old mid new is (recorded.0, recorded.1 (i ∷ rest), recorded.2) line in
+            let shows : RecordsRun start (take (length inputs) inputs) text.0 =
+            subst (λ (all : List Input). RecordsRun start all text.0) (whole ∙ sym (take-length inputs))
             text.1 in
             (text.0, record { steps = length inputs; runs = is_stopped; shows = shows }, text.2)

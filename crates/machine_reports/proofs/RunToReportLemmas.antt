@@ -7,15 +7,15 @@ use Rattle.handlers.specs.Placing.{IsRunRefused}
 use Rattle.handlers.specs.Report.{BeforeOutput}
 use Rattle.handlers.specs.declared.fault.ReportFault.{ReportFault}
 use Rattle.handlers.specs.declared.fault.ReportFault.TheVariants as report_fault
-use Rattle.machine_reports.specs.Machine.{Front}
+use Rattle.machine_reports.specs.Machine.{End, Front}
 use Rattle.machine_reports.specs.RunTo.{HasEnd, HasNoEnd, IsRunToRefused, IsRunToReport, IsRunnableTo, end_of}
 use Rattle.machine_reports.proofs.MachineLemmas.{same_names}
 
 -- what is shown could be run
-pub runnable_to : (Shows : Front) (source machine word : List ℕ) (profile : Profile) (done : Bool)
-    (text : List ℕ) → IsRunToReport Shows source machine word profile done text
+pub runnable_to : (Shows : Front) (ends : End) (source machine word : List ℕ) (profile : Profile) (done : Bool)
+    (text : List ℕ) → IsRunToReport Shows ends source machine word profile done text
     → IsRunnableTo source machine word profile
-runnable_to Shows source machine word profile done text h =
+runnable_to Shows ends source machine word profile done text h =
     let placed = h.loaded.placed in
     record {
       end = record {

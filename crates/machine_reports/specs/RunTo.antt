@@ -1,6 +1,6 @@
 -- A run that ends before the instruction at an address, its report, and when each refusal of it is answered.
-use Rattle.std.specs.Prelude.{◌≡◌, ◌==◌, ◌↔◌, ◌++◌, ◌⊎◌, ◌<◌, ℕ, Bool, IsTrue, List, [], codes, length, take}
-use Rattle.std.specs.Prelude.{Option, Some, None, Result, Ok, if◌then◌else◌}
+use Rattle.std.specs.Prelude.{◌≡◌, ◌↔◌, ◌++◌, ◌⊎◌, ◌<◌, ℕ, Bool, IsTrue, List, length, take}
+use Rattle.std.specs.Prelude.{Option, Some, None, Result, Ok}
 use Rattle.std.specs.Result.{result_ok}
 use Rattle.bus_ticks.specs.declared.profile.Profile.{Profile}
 use Rattle.image.specs.Image.{Words}
@@ -10,14 +10,13 @@ use Rattle.arm2_exec.specs.State.{State}
 use Rattle.arm2_exec.specs.Step.{address_in as next_address}
 use Rattle.arm2_exec.specs.declared.machine.Input.{Input}
 use Rattle.arm2_exec.specs.declared.machine.Ran.{Ran}
-use Rattle.asm_text.specs.Hex.{hex}
 use Rattle.debugger.specs.Commands.{address_in}
 use Rattle.sources.specs.Source.{source_of}
 use Rattle.handlers.specs.Answers.{Answers}
 use Rattle.handlers.specs.Placing.{IsFileRefused, IsLoadRefused, IsLoaded, IsRunRefused, IsRunnable}
 use Rattle.handlers.specs.declared.fault.ReportFault.{ReportFault}
 use Rattle.handlers.specs.declared.fault.ReportFault.TheVariants as report_fault
-use Rattle.machine_reports.specs.Machine.{Front, end_text}
+use Rattle.machine_reports.specs.Machine.{End, Front}
 
 -- ## Where it ends
 
@@ -50,13 +49,9 @@ pub record ShowsRunTo (Shows : Front) (to : ℕ) (s : State) (inputs : List Inpu
 
 -- ## Its report
 
--- that the instruction there is next, if it is
-abbrev pub reached_text : (to next : ℕ) → List ℕ
-reached_text to next = if next == to then codes "reached " ++ (hex to ++ codes "\n") else []
-
 -- the report of the run, and whether the machine did not stop
-pub record IsRunToReport (Shows : Front) (source machine word : List ℕ) (profile : Profile) (done : Bool)
-    (text : List ℕ) : Type 0 where
+pub record IsRunToReport (Shows : Front) (ends : End) (source machine word : List ℕ) (profile : Profile)
+    (done : Bool) (text : List ℕ) : Type 0 where
   pub state : State
   pub inputs : List Input
   pub loaded : IsLoaded source machine profile state inputs
@@ -67,7 +62,7 @@ pub record IsRunToReport (Shows : Front) (source machine word : List ℕ) (profi
   pub front : List ℕ
   pub shown : ShowsRunTo Shows to state inputs ran after front
   pub done_is : IsTrue done ↔ (ran.stopped ≡ None)
-  pub text_is : text ≡ front ++ (reached_text to (next_address after.regs) ++ end_text ran after)
+  pub text_is : text ≡ front ++ ends (Some to) ran after
 
 -- ## Refusals
 
@@ -103,8 +98,8 @@ module _ (source machine word : List ℕ) (profile : Profile) where
   IsRunToRefused fault = IsRunRefused source machine profile fault
 
 -- the answer to a source, a machine file and a word: the report of the run
-abbrev pub ReportsRunTo : {O : Type 0} → Front → (O → Option (List ℕ)) → (O → ℕ)
+abbrev pub ReportsRunTo : {O : Type 0} → Front → End → (O → Option (List ℕ)) → (O → ℕ)
     → (source machine word : List ℕ) → Profile → O → O → Result Bool ReportFault → Type 0
-ReportsRunTo Shows taken failures source machine word profile old new result =
-    Answers taken failures (IsRunToReport Shows source machine word profile)
+ReportsRunTo Shows ends taken failures source machine word profile old new result =
+    Answers taken failures (IsRunToReport Shows ends source machine word profile)
     (IsRunnableTo source machine word profile) (IsRunToRefused source machine word profile) old new result

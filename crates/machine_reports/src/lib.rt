@@ -7,5 +7,7 @@ mod run_to;
 mod steps_to;
 
 pub use debug::debug_report;
-pub use machine::{Front, ShownRegisters, ShownSteps, machine_report, run_report, trace_report};
+pub use machine::{
+    Front, ShownRecords, ShownRegisters, ShownSteps, machine_report, run_report, trace_report,
+};
 pub use run_to::{RunTo, run_to_report};

@@ -4,18 +4,22 @@ ghost use Rattle.bus_ticks.specs.declared.profile.Profile.{Profile};
 ghost use Rattle.arm2_exec.specs.Run.{Runs};
 ghost use Rattle.asm_text.specs.Appended.{Appends};
 ghost use Rattle.handlers.specs.Placing.{IsPlaced, IsRunRefused, IsRunnable};
-ghost use Rattle.machine_reports.specs.Machine.{Front, IsMachineReport, ReportsRun, ShowsRegisters};
-ghost use Rattle.machine_reports.specs.Machine.{ShowsSteps, end_text};
+ghost use Rattle.arm2_exec.specs.Step.{address_in as next_address};
+ghost use Rattle.machine_reports.specs.Machine.{End, Front, IsMachineReport, ReportsRun, ShowsRecords};
+ghost use Rattle.machine_reports.specs.Machine.{ShowsRegisters, ShowsSteps, end_text, lines_end, reached_if};
+ghost use Rattle.machine_reports.specs.Machine.{record_end};
 ghost use Rattle.machine_reports.specs.RunTo.{ShowsRunTo};
 ghost use Rattle.handlers.specs.Priced.{Priced};
 ghost use Rattle.handlers.specs.Report.{BeforeOutput};
 
-use crate::steps_to::{write_registers_to, write_run_to};
+use crate::steps_to::{write_records_to, write_registers_to, write_run_to};
 use arm2_exec::{Input, Machine, Ran};
 use bus_ticks::Profile;
 use handlers::{Placed, ReportFault, place, print_answer, profile_of};
+use json_trace::write_records;
 use outputs::Output;
 use std::alloc::{AllocError, Global};
+use std::fmt::Write;
 use text_trace::{write_registers, write_run, write_stop, write_ticks};
 
 /// A report's text, and whether the machine did not stop.
@@ -26,7 +30,7 @@ pub(crate) struct Shown {
 }
 
 /// Why and where the machine stopped, if it did, and the ticks of the run.
-pub(crate) fn put_end(out: &mut String, machine: &Machine, ran: &Ran) -> Result<(), AllocError>
+fn put_end(out: &mut String, machine: &Machine, ran: &Ran) -> Result<(), AllocError>
     ensures { OnOk result (string_bytes out.new ≡ string_bytes out.old ++ end_text ran.now machine.now) }
 {
     if let Some(why) = ran.stopped {
@@ -35,10 +39,39 @@ pub(crate) fn put_end(out: &mut String, machine: &Machine, ran: &Ran) -> Result<
     write_ticks(out, ran.ticks, ran.elapsed)
 }
 
-/// What the report of a run prints in front of its end.
+// That the run has reached the address to which it was to go, if it has.
+fn put_reached(out: &mut String, machine: &Machine, to: Option<u32>) -> Result<(), AllocError>
+    ensures { OnOk result
+        (string_bytes out.new ≡ string_bytes out.old ++ reached_if to (next_address machine.now.regs)) }
+{
+    match to {
+        Some(to) if machine.address() == to => write!(out, "reached {to:X}\n"),
+        _ => Ok(()),
+    }
+}
+
+// The end of a report in lines.
+fn put_lines_end(
+    out: &mut String,
+    machine: &Machine,
+    ran: &Ran,
+    to: Option<u32>,
+) -> Result<(), AllocError>
+    ensures { OnOk result
+        (string_bytes out.new ≡ string_bytes out.old ++ lines_end to ran.now machine.now) }
+{
+    put_reached(out, machine, to)?;
+    put_end(out, machine, ran)?;
+    Ok(())
+}
+
+/// How the report of a run is written: what it prints of the run, and its end.
 pub trait Front {
-    /// The text, of the machine before the run, its inputs and the machine after it.
+    /// The text in front of the end, of the machine before the run, its inputs and the machine after it.
     ghost shows: { Front };
+
+    /// The end.
+    ghost ends: { End };
 
     /// Runs the machine and adds the text.
     ///
@@ -69,6 +102,19 @@ pub trait Front {
         ensures { IfOk result
             (λ ran. Appends (ShowsRunTo shows to machine.old inputs.now ran machine.new)
             (string_bytes out.old) (string_bytes out.new)) };
+
+    /// Adds the end of a run, with the address to which it was to go, if any.
+    ///
+    /// # Errors
+    ///
+    /// An allocation failed.
+    fn write_end(
+        out: &mut String,
+        machine: &Machine,
+        ran: &Ran,
+        to: Option<u32>,
+    ) -> Result<(), AllocError>
+        ensures { OnOk result (string_bytes out.new ≡ string_bytes out.old ++ ends to ran.now machine.now) };
 }
 
 /// The registers in which the run ends.
@@ -76,6 +122,8 @@ pub struct ShownRegisters;
 
 impl Front for ShownRegisters {
     ghost shows = { ShowsRegisters };
+
+    ghost ends = { lines_end };
 
     fn write_front(
         out: &mut String,
@@ -95,6 +143,15 @@ impl Front for ShownRegisters {
     ) -> Result<Ran, AllocError> {
         write_registers_to(out, machine, inputs, to)
     }
+
+    fn write_end(
+        out: &mut String,
+        machine: &Machine,
+        ran: &Ran,
+        to: Option<u32>,
+    ) -> Result<(), AllocError> {
+        put_lines_end(out, machine, ran, to)
+    }
 }
 
 /// A line for each step.
@@ -102,6 +159,8 @@ pub struct ShownSteps;
 
 impl Front for ShownSteps {
     ghost shows = { ShowsSteps };
+
+    ghost ends = { lines_end };
 
     fn write_front(
         out: &mut String,
@@ -119,6 +178,50 @@ impl Front for ShownSteps {
     ) -> Result<Ran, AllocError> {
         write_run_to(out, machine, inputs, to)
     }
+
+    fn write_end(
+        out: &mut String,
+        machine: &Machine,
+        ran: &Ran,
+        to: Option<u32>,
+    ) -> Result<(), AllocError> {
+        put_lines_end(out, machine, ran, to)
+    }
+}
+
+/// A line of JSON for each step, and one at the end.
+pub struct ShownRecords;
+
+impl Front for ShownRecords {
+    ghost shows = { ShowsRecords };
+
+    ghost ends = { record_end };
+
+    fn write_front(
+        out: &mut String,
+        machine: &mut Machine,
+        inputs: &[Input],
+    ) -> Result<Ran, AllocError> {
+        write_records(out, machine, inputs)
+    }
+
+    fn write_front_to(
+        out: &mut String,
+        machine: &mut Machine,
+        inputs: &[Input],
+        to: u32,
+    ) -> Result<Ran, AllocError> {
+        write_records_to(out, machine, inputs, to)
+    }
+
+    fn write_end(
+        out: &mut String,
+        machine: &Machine,
+        ran: &Ran,
+        to: Option<u32>,
+    ) -> Result<(), AllocError> {
+        json_trace::put_end(out, machine, ran)
+    }
 }
 
 fn report_of<F: Front>(
@@ -128,7 +231,7 @@ fn report_of<F: Front>(
     profile: Profile,
 ) -> Result<Shown, ReportFault>
     ensures shown { IfOk result
-        (λ s. IsMachineReport F.shows source.now machine.now profile s.done (string_bytes s.text)) }
+        (λ s. IsMachineReport F.shows F.ends source.now machine.now profile s.done (string_bytes s.text)) }
     ensures fault { IfErr result (BeforeOutput (IsRunRefused source.now machine.now profile)) }
     ensures only { IsRunnable source.now machine.now profile → IfErr result (λ e. e ≡ ReportFault.Memory) }
 {
@@ -140,13 +243,13 @@ fn report_of<F: Front>(
 fn placed_report<F: Front>(alloc: Global, placed: &mut Placed) -> Result<Shown, ReportFault>
     ensures shown { (source machine : List ℕ) (profile : Profile)
         → IsPlaced source machine profile placed.old.file placed.old.machine
-        → IfOk result (λ s. IsMachineReport F.shows source machine profile s.done (string_bytes s.text)) }
+        → IfOk result (λ s. IsMachineReport F.shows F.ends source machine profile s.done (string_bytes s.text)) }
     ensures memory { IfErr result (λ e. e ≡ ReportFault.Memory) }
 {
     let inputs = placed.file.inputs(alloc)?;
     let mut text = String::new(alloc);
     let ran = F::write_front(&mut text, &mut placed.machine, &inputs)?;
-    put_end(&mut text, &placed.machine, &ran)?;
+    F::write_end(&mut text, &placed.machine, &ran, None)?;
     Ok(Shown {
         text,
         done: ran.stopped.is_none(),
@@ -160,7 +263,7 @@ fn priced<F: Front, O: Output>(
     profile: Profile,
     out: &mut O,
 ) -> Result<bool, ReportFault>
-    ensures { ReportsRun F.shows O.taken O.failures source.now machine.now profile out.old out.new result }
+    ensures { ReportsRun F.shows F.ends O.taken O.failures source.now machine.now profile out.old out.new result }
 {
     let shown = report_of::<F>(alloc, source, machine, profile)?;
     print_answer(shown.done, shown.text.as_bytes(), out)
@@ -180,7 +283,7 @@ pub fn machine_report<F: Front, O: Output>(
     out: &mut O,
 ) -> Result<bool, ReportFault>
     ensures { Priced (option_map (λ f. f.now) profile.entry)
-        (λ p. ReportsRun F.shows O.taken O.failures source.now machine.now p out.old out.new result) out.old
+        (λ p. ReportsRun F.shows F.ends O.taken O.failures source.now machine.now p out.old out.new result) out.old
         out.new result }
 {
     let profile = profile_of(alloc, profile)?;
@@ -205,7 +308,7 @@ pub fn run_report<O: Output>(
     out: &mut O,
 ) -> Result<bool, ReportFault>
     ensures { Priced (option_map (λ f. f.now) profile.entry)
-        (λ p. ReportsRun ShowsRegisters O.taken O.failures source.now machine.now p out.old out.new result)
+        (λ p. ReportsRun ShowsRegisters lines_end O.taken O.failures source.now machine.now p out.old out.new result)
         out.old out.new result }
 {
     machine_report::<ShownRegisters, O>(alloc, source, machine, profile, out)
@@ -225,7 +328,7 @@ pub fn trace_report<O: Output>(
     out: &mut O,
 ) -> Result<bool, ReportFault>
     ensures { Priced (option_map (λ f. f.now) profile.entry)
-        (λ p. ReportsRun ShowsSteps O.taken O.failures source.now machine.now p out.old out.new result)
+        (λ p. ReportsRun ShowsSteps lines_end O.taken O.failures source.now machine.now p out.old out.new result)
         out.old out.new result }
 {
     machine_report::<ShownSteps, O>(alloc, source, machine, profile, out)

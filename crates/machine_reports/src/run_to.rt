@@ -1,8 +1,7 @@
 //! The report of a run that ends before the instruction at an address.
 
-ghost use Rattle.std.specs.Prelude.{◌≡◌, ◌++◌, List, ℕ, IfErr, IfOk, OnOk, Some, option_map, string_bytes};
+ghost use Rattle.std.specs.Prelude.{◌≡◌, List, ℕ, IfErr, IfOk, Some, option_map, string_bytes};
 ghost use Rattle.bus_ticks.specs.declared.profile.Profile.{Profile};
-ghost use Rattle.arm2_exec.specs.Step.{address_in as next_address};
 ghost use Rattle.debugger.specs.Commands.{number_or_label};
 ghost use Rattle.debugger.specs.Words.{number_of};
 ghost use Rattle.image.specs.Labels.{address_of};
@@ -10,19 +9,17 @@ ghost use Rattle.handlers.specs.Placing.{IsPlaced};
 ghost use Rattle.handlers.specs.Priced.{Priced};
 ghost use Rattle.handlers.specs.Report.{BeforeOutput};
 ghost use Rattle.machine_reports.specs.RunTo.{IsRunToRefused, IsRunToReport, IsRunnableTo, ReportsRunTo};
-ghost use Rattle.machine_reports.specs.RunTo.{end_of, reached_text};
+ghost use Rattle.machine_reports.specs.RunTo.{end_of};
 ghost use Rattle.sources.specs.Source.{Says};
 
-use crate::machine::{Front, Shown, put_end};
-use arm2_exec::Machine;
+use crate::machine::{Front, Shown};
 use asm_text::{read_hex, read_number};
 use bus_ticks::{Profile, SPACE_END};
 use handlers::{Placed, ReportFault, place_image, print_answer, profile_of, read_source};
 use image::Labels;
 use outputs::Output;
 use sources::Source;
-use std::alloc::{AllocError, Global};
-use std::fmt::Write;
+use std::alloc::Global;
 
 /// What a run that ends before the instruction at an address is made of: a source, a machine file, and the
 /// word that says the address.
@@ -64,17 +61,6 @@ fn end_of(labels: &Labels, word: &[u8]) -> Option<u32>
     }
 }
 
-// That the run has reached the address, if it has.
-fn put_reached(out: &mut String, machine: &Machine, to: u32) -> Result<(), AllocError>
-    ensures { OnOk result
-        (string_bytes out.new ≡ string_bytes out.old ++ reached_text to (next_address machine.now.regs)) }
-{
-    if machine.address() != to {
-        return Ok(());
-    }
-    write!(out, "reached {to:X}\n")
-}
-
 // The report of a machine that has all its words.
 fn placed_report<F: Front>(
     alloc: Global,
@@ -84,14 +70,13 @@ fn placed_report<F: Front>(
     ensures shown { (source machine word : List ℕ) (profile : Profile)
         → (is : IsPlaced source machine profile placed.old.file placed.old.machine)
         → end_of is.stated.names word ≡ Some to
-        → IfOk result (λ s. IsRunToReport F.shows source machine word profile s.done (string_bytes s.text)) }
+        → IfOk result (λ s. IsRunToReport F.shows F.ends source machine word profile s.done (string_bytes s.text)) }
     ensures memory { IfErr result (λ e. e ≡ ReportFault.Memory) }
 {
     let inputs = placed.file.inputs(alloc)?;
     let mut text = String::new(alloc);
     let ran = F::write_front_to(&mut text, &mut placed.machine, &inputs, to)?;
-    put_reached(&mut text, &placed.machine, to)?;
-    put_end(&mut text, &placed.machine, &ran)?;
+    F::write_end(&mut text, &placed.machine, &ran, Some(to))?;
     Ok(Shown {
         text,
         done: ran.stopped.is_none(),
@@ -107,7 +92,7 @@ fn source_report<F: Front>(
 ) -> Result<Shown, ReportFault>
     ensures shown { Says asked.entry.source.now said.now
         → IfOk result
-        (λ s. IsRunToReport F.shows asked.entry.source.now asked.entry.machine.now asked.entry.to.now profile
+        (λ s. IsRunToReport F.shows F.ends asked.entry.source.now asked.entry.machine.now asked.entry.to.now profile
         s.done (string_bytes s.text)) }
     ensures fault { Says asked.entry.source.now said.now
         → IfErr result (BeforeOutput
@@ -126,7 +111,7 @@ fn report_of<F: Front>(
     profile: Profile,
 ) -> Result<Shown, ReportFault>
     ensures shown { IfOk result
-        (λ s. IsRunToReport F.shows asked.entry.source.now asked.entry.machine.now asked.entry.to.now profile
+        (λ s. IsRunToReport F.shows F.ends asked.entry.source.now asked.entry.machine.now asked.entry.to.now profile
         s.done (string_bytes s.text)) }
     ensures fault { IfErr result (BeforeOutput
         (IsRunToRefused asked.entry.source.now asked.entry.machine.now asked.entry.to.now profile)) }
@@ -143,7 +128,7 @@ fn priced<F: Front, O: Output>(
     profile: Profile,
     out: &mut O,
 ) -> Result<bool, ReportFault>
-    ensures { ReportsRunTo F.shows O.taken O.failures asked.entry.source.now asked.entry.machine.now
+    ensures { ReportsRunTo F.shows F.ends O.taken O.failures asked.entry.source.now asked.entry.machine.now
         asked.entry.to.now profile out.old out.new result }
 {
     let shown = report_of::<F>(alloc, asked, profile)?;
@@ -152,8 +137,8 @@ fn priced<F: Front, O: Output>(
 
 /// Runs the machine as [`machine_report`](crate::machine_report) does, up to the first state in which the
 /// instruction at an address is next, before the first step too; where the run comes to none, as far as that
-/// does. Prints the same, with a line `reached` and the address in front of the ticks where it is next, and
-/// answers whether the machine has not stopped.
+/// does. Prints the same, in lines of text with a line `reached` and the address in front of the ticks where it
+/// is next, and answers whether the machine has not stopped.
 ///
 /// # Errors
 ///
@@ -167,7 +152,7 @@ pub fn run_to_report<F: Front, O: Output>(
     out: &mut O,
 ) -> Result<bool, ReportFault>
     ensures { Priced (option_map (λ f. f.now) profile.entry)
-        (λ p. ReportsRunTo F.shows O.taken O.failures asked.entry.source.now asked.entry.machine.now
+        (λ p. ReportsRunTo F.shows F.ends O.taken O.failures asked.entry.source.now asked.entry.machine.now
         asked.entry.to.now p out.old out.new result) out.old out.new result }
 {
     let profile = profile_of(alloc, profile)?;

@@ -2,10 +2,11 @@
 
 ghost use Rattle.std.specs.Prelude.{◌≡◌, ℕ, IfOk, string_bytes};
 ghost use Rattle.asm_text.specs.Appended.{Appends};
-ghost use Rattle.machine_reports.specs.Machine.{ShowsRegisters, ShowsSteps};
+ghost use Rattle.machine_reports.specs.Machine.{ShowsRecords, ShowsRegisters, ShowsSteps};
 ghost use Rattle.machine_reports.specs.RunTo.{RunsTo, ShowsRunTo};
 
 use arm2_exec::{Input, Kind, Machine, Ran};
+use json_trace::{put_step, step_recorded};
 use std::alloc::AllocError;
 use text_trace::{trace_line, write_registers};
 
@@ -71,6 +72,35 @@ pub(crate) fn write_run_to(
         }
         out.push_str(trace_line(&traced).as_str())?;
         ran.count(&profile, *input, traced.stepped);
+    }
+    Ok(ran)
+}
+
+/// The same with a line of JSON for each step.
+pub(crate) fn write_records_to(
+    out: &mut String,
+    machine: &mut Machine,
+    inputs: &[Input],
+    to: u32,
+) -> Result<Ran, AllocError>
+    ensures { IfOk result
+        (λ ran. Appends (ShowsRunTo ShowsRecords to machine.old inputs.now ran machine.new)
+        (string_bytes out.old) (string_bytes out.new)) }
+{
+    let mut ran = Ran::new();
+    for input in inputs {
+        if machine.address() == to {
+            return Ok(ran);
+        }
+        let profile = machine.profile();
+        let made = step_recorded(machine, *input, &ran);
+        put_step(out, &made, machine)?;
+        let stepped = made.traced.stepped;
+        if let Kind::Stopped(why) = stepped.kind {
+            ran.stopped = Some(why);
+            return Ok(ran);
+        }
+        ran.count(&profile, *input, stepped);
     }
     Ok(ran)
 }

@@ -1,5 +1,6 @@
 -- The entries of a statement without effect on a bound.
-use Rattle.std.specs.Prelude.{◌≡◌, ℕ, Bool, true, not, ◌&&◌, nat_le, List, [], ◌++◌, codes}
+use Rattle.std.specs.Prelude.{◌≡◌, ◌⊎◌, ℕ, Bool, true, not, ◌&&◌, nat_le, List, [], ◌++◌, codes}
+use Rattle.std.specs.Prelude.{count_by, decimal, map, if◌then◌else◌}
 use Rattle.std.specs.List.{list_any}
 use Rattle.std.specs.Map.{keys_of}
 use Rattle.arm2_decode.specs.Names.{is_always, is_never}
@@ -57,6 +58,34 @@ EntryCounts words done reached Access a = (done a ≡ true) × HasShape is_trans
 EntryCounts words done reached Multiply a = (done a ≡ true) × HasShape is_multiply words a
 EntryCounts words done reached Branch a = (reached a ≡ true) × IsConditional words a
 
+-- ## Which entries are said together
+
+-- an address for each entry, of a loop its header's; stretches and rules, which name several, are left out
+abbrev pub entry_addresses : Stated → List ℕ
+entry_addresses st =
+    map (λ l. l.header) st.loops.list
+    ++ (keys_of st.targets ++ (keys_of st.accesses ++ (keys_of st.multiplies ++ keys_of st.branches)))
+
+-- how many of the addresses are never reached, each as often as it is there
+abbrev pub count_unreached : (reached : ℕ → Bool) → (addresses : List ℕ) → ℕ
+count_unreached reached addresses = count_by (λ a. not (reached a)) addresses
+
+-- how many entries name an address that is never reached
+abbrev pub unreached_entries : Stated → Flow → ℕ
+unreached_entries st flow = count_unreached (is_reached flow.places) (entry_addresses st)
+
+-- four or more are said together
+abbrev pub are_together : ℕ → Bool
+are_together n = nat_le 4 n
+
+-- the entry of the address is said together with others
+abbrev pub is_with_others : (together : Bool) → (reached : ℕ → Bool) → ℕ → Bool
+is_with_others together reached a = together && not (reached a)
+
+-- whether the row of those together stands for an entry of the address
+abbrev pub in_together_row : Stated → Flow → ℕ → Bool
+in_together_row st flow = is_with_others (are_together (unreached_entries st flow)) (is_reached flow.places)
+
 -- ## Rows
 
 -- an address between two texts
@@ -99,8 +128,12 @@ pub record IsIdleRow (Counts : Type 0) (shown row : List ℕ) : Type 0 where
   pub without : (Counts → ⊥) → row ≡ shown
   pub with_one : Counts → row ≡ []
 
-abbrev pub IsLoopRow : List ApartStretch → Flow → Loop → List ℕ → Type 0
-IsLoopRow apart flow l = IsIdleRow (LoopCounts apart flow l) (loop_row l.header)
+-- nor has one that is said together with others
+abbrev pub IsOwnRow : (Counts : Type 0) → (with_others : Bool) → (shown row : List ℕ) → Type 0
+IsOwnRow Counts with_others = IsIdleRow (Counts ⊎ (with_others ≡ true))
+
+abbrev pub IsLoopRow : List ApartStretch → Flow → (others : ℕ → Bool) → Loop → List ℕ → Type 0
+IsLoopRow apart flow others l = IsOwnRow (LoopCounts apart flow l) (others l.header) (loop_row l.header)
 
 abbrev pub IsStretchRow : List Loop → ApartStretch → List ℕ → Type 0
 IsStretchRow loops s = IsIdleRow (StretchCounts loops s) (stretch_row s)
@@ -108,19 +141,29 @@ IsStretchRow loops s = IsIdleRow (StretchCounts loops s) (stretch_row s)
 abbrev pub IsRuleRow : Words → Stated → Flow → BaseRule → List ℕ → Type 0
 IsRuleRow words st flow r = IsIdleRow (RuleCounts words st flow r) (rule_row r)
 
-abbrev pub IsEntryRow : Words → (done reached : ℕ → Bool) → Entry → ℕ → List ℕ → Type 0
-IsEntryRow words done reached entry a =
-    IsIdleRow (EntryCounts words done reached entry a) (entry_row entry a)
+abbrev pub IsEntryRow : Words → (done reached others : ℕ → Bool) → Entry → ℕ → List ℕ → Type 0
+IsEntryRow words done reached others entry a =
+    IsOwnRow (EntryCounts words done reached entry a) (others a) (entry_row entry a)
+
+abbrev pub together_words : List ℕ
+together_words = codes " entries name addresses that are never reached: is a [[target]] missing?\n"
+
+-- how many are said together, where they are; else nothing
+abbrev pub together_row : ℕ → List ℕ
+together_row n =
+    if are_together n
+    then codes "  " ++ (decimal n ++ together_words)
+    else []
 
 -- ## The text
 
 -- the rows of those of the entries without effect
-abbrev pub AreEntryRows : Words → Flow → Entry → (addresses rows : List ℕ) → Type 0
-AreEntryRows words flow entry =
-    AreRows (IsEntryRow words (is_carried_out flow.edges) (is_reached flow.places) entry)
+abbrev pub AreEntryRows : Words → Flow → (others : ℕ → Bool) → Entry → (addresses rows : List ℕ) → Type 0
+AreEntryRows words flow others entry =
+    AreRows (IsEntryRow words (is_carried_out flow.edges) (is_reached flow.places) others entry)
 
 -- the rows of exactly the loops, the stretches apart, the targets, the accesses, the rules, the multiplies
--- and the branches without effect, each kind in the statement's order
+-- and the branches without effect, each kind in the statement's order, but for those that are said together
 pub record AreIdleRows (words : Words) (st : Stated) (flow : Flow) (rows : List ℕ) : Type 0 where
   pub loops : List ℕ
   pub stretches : List ℕ
@@ -129,15 +172,22 @@ pub record AreIdleRows (words : Words) (st : Stated) (flow : Flow) (rows : List 
   pub rules : List ℕ
   pub multiplies : List ℕ
   pub branches : List ℕ
-  pub are_loops : AreRows (IsLoopRow st.loops.apart flow) st.loops.list loops
+  pub are_loops : AreRows (IsLoopRow st.loops.apart flow (in_together_row st flow)) st.loops.list loops
   pub are_stretches : AreRows (IsStretchRow st.loops.list) st.loops.apart stretches
-  pub are_targets : AreEntryRows words flow Target (keys_of st.targets) targets
-  pub are_accesses : AreEntryRows words flow Access (keys_of st.accesses) accesses
+  pub are_targets : AreEntryRows words flow (in_together_row st flow) Target (keys_of st.targets) targets
+  pub are_accesses : AreEntryRows words flow (in_together_row st flow) Access (keys_of st.accesses) accesses
   pub are_rules : AreRows (IsRuleRow words st flow) st.rules rules
-  pub are_multiplies : AreEntryRows words flow Multiply (keys_of st.multiplies) multiplies
-  pub are_branches : AreEntryRows words flow Branch (keys_of st.branches) branches
+  pub are_multiplies : AreEntryRows words flow (in_together_row st flow) Multiply (keys_of st.multiplies)
+      multiplies
+  pub are_branches : AreEntryRows words flow (in_together_row st flow) Branch (keys_of st.branches) branches
   pub rows_are : rows
-      ≡ loops ++ (stretches ++ (targets ++ (accesses ++ (rules ++ (multiplies ++ branches)))))
+      ≡ loops
+      ++ (stretches
+      ++ (targets
+      ++ (accesses
+      ++ (rules
+      ++ (multiplies
+      ++ (branches ++ together_row (unreached_entries st flow)))))))
 
 abbrev pub idle_heading : List ℕ
 idle_heading = codes "\nEntries of the statement without effect:\n"

@@ -1,4 +1,4 @@
-ghost use Rattle.std.specs.Prelude.{◌≡◌, ◌↔◌, ◌++◌, ◌==◌, if◌then◌else◌, [], IfOk, IsTrue, OnOk};
+ghost use Rattle.std.specs.Prelude.{◌≡◌, ◌↔◌, ◌++◌, ◌==◌, if◌then◌else◌, [], IfOk, IsTrue, OnOk, map};
 ghost use Rattle.std.specs.BTreeSet.{contains};
 ghost use Rattle.std.specs.List.{list_any};
 ghost use Rattle.std.specs.Map.{keys_of};
@@ -8,7 +8,8 @@ ghost use Rattle.control_flow.specs.Kinds.{is_multiply};
 ghost use Rattle.loop_bounds.specs.Instance.{is_back_edge_of};
 ghost use Rattle.text_explained.specs.Idle.{AreIdleEntries, AreIdleRows, EntryCounts, IsConditional};
 ghost use Rattle.text_explained.specs.Idle.{IsEntryRow, IsLoopRow, IsRuleRow, back_of, between, entry_row};
-ghost use Rattle.text_explained.specs.Idle.{front_of, has_condition, rule_row};
+ghost use Rattle.text_explained.specs.Idle.{are_together, front_of, has_condition, is_with_others, entry_addresses};
+ghost use Rattle.text_explained.specs.Idle.{count_unreached, rule_row, together_row};
 ghost use Rattle.text_explained.specs.RuleParts.{AreDoneCoverages};
 ghost use Rattle.text_rows.specs.Rows.{AreRows};
 ghost use Rattle.word_shapes.specs.Words.{HasShape};
@@ -22,13 +23,16 @@ use control_flow::{Graph, action_of, is_multiply};
 use image::Image;
 use indexmap::IndexMap;
 use loop_bounds::{Handler, is_back_edge_of};
-use statement::{ApartWords, BaseRule, Loop};
+use statement::{ApartWords, BaseRule, Loop, Statement};
 use std::alloc::{AllocError, Global};
 use std::collections::BTreeSet;
-use text_rows::{put, section};
+use text_rows::{put, put_decimal, section};
 use word_shapes::{instr_at, is_transfer_at};
 
 const HEADING: &[u8] = b"\nEntries of the statement without effect:\n";
+
+// From how many on entries that name addresses that are never reached are said together.
+const TOGETHER: usize = 4;
 
 /// A kind of entries that name the address of a word.
 #[derive(Clone, Copy)]
@@ -39,12 +43,23 @@ pub(crate) enum Entry {
     Branch,
 }
 
-// The words of an image, and at which addresses a graph carries them out and has places.
+// The words of an image, at which addresses a graph carries them out and has places, and whether the entries
+// that name addresses where it has none are said together.
 #[derive(Clone, Copy)]
 struct Seen<'a> {
     image: &'a Image,
     done: &'a BTreeSet<u32>,
     reached: &'a BTreeSet<u32>,
+    together: bool,
+}
+
+impl Seen<'_> {
+    // Whether the entry of the address is said together with others.
+    fn is_with_others(&self, at: u32) -> bool
+        ensures { result ≡ is_with_others self.now.together (contains nat_cmp self.now.reached.now) at }
+    {
+        self.together && !self.reached.contains(&at)
+    }
 }
 
 fn turns_back(graph: &Graph, apart: &ApartWords, stated: &Loop) -> bool
@@ -65,16 +80,22 @@ fn put_between(out: &mut Vec<u8>, front: &[u8], at: u32, back: &[u8]) -> Result<
     put(out, back)
 }
 
-// Adds the row of a loop, if it has no effect.
+// Adds the row of a loop, if it has no effect and is not said together with others.
 fn put_loop(
     out: &mut Vec<u8>,
+    seen: Seen<'_>,
     graph: &Graph,
     apart: &ApartWords,
     stated: &Loop,
 ) -> Result<(), AllocError>
     ensures { OnOk result
-        (Appends (IsLoopRow apart.now graph.now stated.now) out.old.items out.new.items) }
+        (Appends (IsLoopRow apart.now graph.now
+        (is_with_others seen.entry.together (contains nat_cmp seen.entry.reached.now)) stated.now)
+        out.old.items out.new.items) }
 {
+    if seen.is_with_others(stated.header) {
+        return Ok(());
+    }
     if turns_back(graph, apart, stated) {
         return Ok(());
     }
@@ -88,15 +109,18 @@ fn put_loop(
 
 fn put_loops(
     out: &mut Vec<u8>,
+    seen: Seen<'_>,
     graph: &Graph,
     apart: &ApartWords,
     loops: &[Loop],
 ) -> Result<(), AllocError>
     ensures { OnOk result
-        (Appends (AreRows (IsLoopRow apart.now graph.now) loops.now) out.old.items out.new.items) }
+        (Appends (AreRows (IsLoopRow apart.now graph.now
+        (is_with_others seen.entry.together (contains nat_cmp seen.entry.reached.now))) loops.now)
+        out.old.items out.new.items) }
 {
     for stated in loops {
-        put_loop(out, graph, apart, stated)?;
+        put_loop(out, seen, graph, apart, stated)?;
     }
     Ok(())
 }
@@ -172,12 +196,17 @@ impl Entry {
     }
 }
 
-// Adds the row of an entry, if it has no effect.
+// Adds the row of an entry, if it has no effect and is not said together with others.
 fn put_entry(out: &mut Vec<u8>, seen: Seen<'_>, entry: Entry, at: u32) -> Result<(), AllocError>
     ensures { OnOk result
         (Appends (IsEntryRow seen.entry.image.now (contains nat_cmp seen.entry.done.now)
-        (contains nat_cmp seen.entry.reached.now) entry at) out.old.items out.new.items) }
+        (contains nat_cmp seen.entry.reached.now)
+        (is_with_others seen.entry.together (contains nat_cmp seen.entry.reached.now)) entry at)
+        out.old.items out.new.items) }
 {
+    if seen.is_with_others(at) {
+        return Ok(());
+    }
     if entry_counts(seen, entry, at) {
         return Ok(());
     }
@@ -192,7 +221,9 @@ fn put_entries(
 ) -> Result<(), AllocError>
     ensures { OnOk result
         (Appends (AreRows (IsEntryRow seen.entry.image.now (contains nat_cmp seen.entry.done.now)
-        (contains nat_cmp seen.entry.reached.now) entry) at.now) out.old.items out.new.items) }
+        (contains nat_cmp seen.entry.reached.now)
+        (is_with_others seen.entry.together (contains nat_cmp seen.entry.reached.now)) entry) at.now)
+        out.old.items out.new.items) }
 {
     for address in at {
         put_entry(out, seen, entry, *address)?;
@@ -209,8 +240,9 @@ fn put_stated<V>(
 ) -> Result<(), AllocError>
     ensures { OnOk result
         (Appends (AreRows (IsEntryRow seen.entry.image.now (contains nat_cmp seen.entry.done.now)
-        (contains nat_cmp seen.entry.reached.now) entry) (keys_of stated.now.entries))
-        out.old.items out.new.items) }
+        (contains nat_cmp seen.entry.reached.now)
+        (is_with_others seen.entry.together (contains nat_cmp seen.entry.reached.now)) entry)
+        (keys_of stated.now.entries)) out.old.items out.new.items) }
 {
     let addresses: Vec<u32> = stated.keys().copied().collect(*out.allocator())?;
     put_entries(out, seen, entry, &addresses)
@@ -249,6 +281,54 @@ fn put_rules(out: &mut Vec<u8>, handler: &Handler<'_>, counts: &[usize]) -> Resu
     Ok(())
 }
 
+// Adds the addresses that are stated.
+fn put_keys<V>(out: &mut Vec<u32>, stated: &IndexMap<u32, V>) -> Result<(), AllocError>
+    ensures { OnOk result (out.new.items ≡ out.old.items ++ keys_of stated.now.entries) }
+{
+    let addresses: Vec<u32> = stated.keys().copied().collect(*out.allocator())?;
+    out.extend_from_slice(&addresses)
+}
+
+fn headers(alloc: Global, loops: &[Loop]) -> Result<Vec<u32>, AllocError>
+    ensures { IfOk result (λ headers. headers.items ≡ map (λ l. l.header) loops.now) }
+{
+    loops.iter().map(|stated| stated.header).collect(alloc)
+}
+
+// An address for each entry.
+fn entry_addresses(alloc: Global, statement: &Statement) -> Result<Vec<u32>, AllocError>
+    ensures { IfOk result (λ addresses. addresses.items ≡ entry_addresses statement.now) }
+{
+    let mut addresses = headers(alloc, statement.loops().list())?;
+    put_keys(&mut addresses, statement.targets())?;
+    put_keys(&mut addresses, statement.accesses())?;
+    put_keys(&mut addresses, statement.multiplies())?;
+    put_keys(&mut addresses, statement.branches())?;
+    Ok(addresses)
+}
+
+// How many of the addresses are never reached.
+fn count_unreached(reached: &BTreeSet<u32>, addresses: &[u32]) -> usize
+    ensures { result ≡ count_unreached (contains nat_cmp reached.now) addresses.now }
+{
+    addresses.iter().filter(|at| !reached.contains(*at)).count()
+}
+
+// Adds the row of the entries that are said together, so many.
+fn put_together(out: &mut Vec<u8>, count: usize) -> Result<(), AllocError>
+    ensures { OnOk result (out.new.items ≡ out.old.items ++ together_row count) }
+{
+    if count < TOGETHER {
+        return Ok(());
+    }
+    put(out, b"  ")?;
+    put_decimal(out, count as u64)?;
+    put(
+        out,
+        b" entries name addresses that are never reached: is a [[target]] missing?\n",
+    )
+}
+
 // The rows of the entries without effect.
 fn idle_rows(alloc: Global, handler: &Handler<'_>) -> Result<Vec<u8>, AllocError>
     ensures { IfOk result
@@ -258,20 +338,24 @@ fn idle_rows(alloc: Global, handler: &Handler<'_>) -> Result<Vec<u8>, AllocError
     let loops = statement.loops();
     let done = addresses_left(alloc, graph, EdgeKind::CarriesOut)?;
     let reached = addresses_reached(alloc, graph)?;
+    let addresses = entry_addresses(alloc, statement)?;
+    let count = count_unreached(&reached, &addresses);
     let seen = Seen {
         image: handler.image,
         done: &done,
         reached: &reached,
+        together: count >= TOGETHER,
     };
     let counts = done_coverages(alloc, handler)?;
     let mut rows = Vec::new(alloc);
-    put_loops(&mut rows, graph, loops.apart(), loops.list())?;
+    put_loops(&mut rows, seen, graph, loops.apart(), loops.list())?;
     put_stretches(&mut rows, loops.list(), loops.apart().stretches())?;
     put_stated(&mut rows, seen, Entry::Target, statement.targets())?;
     put_stated(&mut rows, seen, Entry::Access, statement.accesses())?;
     put_rules(&mut rows, handler, &counts)?;
     put_stated(&mut rows, seen, Entry::Multiply, statement.multiplies())?;
     put_stated(&mut rows, seen, Entry::Branch, statement.branches())?;
+    put_together(&mut rows, count)?;
     Ok(rows)
 }
 
@@ -279,8 +363,9 @@ fn idle_rows(alloc: Global, handler: &Handler<'_>) -> Result<Vec<u8>, AllocError
 /// apart that no loop reaches, targets of words that are never carried out, accesses of words that never load
 /// or store, rules for base registers that cover no word, cycles of words that never multiply, and ways of
 /// words that are not reached or have no condition. Each is named by the address that it names, a loop by its
-/// header's, a stretch by both, and a rule by its register and its part, in the order of the statement.
-/// Nothing where each entry has an effect.
+/// header's, a stretch by both, and a rule by its register and its part, in the order of the statement. Four
+/// or more that name addresses that are never reached are one row at the end, which says how many. Nothing where
+/// each entry has an effect.
 ///
 /// # Errors
 ///

@@ -8,6 +8,7 @@ mod ExtentLemmas
 mod FileCourseLemmas
 mod FileLemmas
 mod FileRowLemmas
+mod FirstLemmas
 mod NestedLemmas
 mod OutlineLemmas
 mod PlacedLemmas

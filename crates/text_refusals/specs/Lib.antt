@@ -1,3 +1,4 @@
+pub mod AskedLabels
 pub mod Courses
 pub mod Crossings
 pub mod Cycles

@@ -4,11 +4,13 @@ use Rattle.std.specs.Prelude.{nat_eq, nat_le, nat_lt, Option, Some, None}
 use Rattle.std.specs.Option.{option_or}
 use Rattle.strsim.specs.Edits.{levenshtein_row}
 
--- how many letters have to be put in, taken out or replaced to make the name of the word, by Levenshtein
+-- how many letters have to be put in, taken out or replaced to make the word into the name, by Levenshtein; a
+-- letter is a byte
 abbrev pub changes : (word name : List ℕ) → ℕ
 changes word name = levenshtein_row nat_eq word name (length name)
 
--- so many do, and some letter of the name stays; a word that is longer by more needs more
+-- so many make it, and fewer than the name has letters, so that one stays; a word that is longer by more
+-- needs more
 abbrev pub is_changed : ℕ → (word name : List ℕ) → Bool
 is_changed n word name =
     nat_lt n (length name) && (nat_le (length word - n) (length name) && (changes word name == n))

@@ -6,6 +6,7 @@
 mod asked;
 mod asked_file;
 mod asked_given;
+mod asked_labels;
 mod asked_profile;
 mod course;
 mod crossings;
@@ -38,6 +39,7 @@ mod stretch_rows;
 mod word_lines;
 mod word_rows;
 
+pub use asked_labels::statement_reason;
 pub use crossings::{Crossing, loops_that_cross};
 pub use cycles::unbounded_cycle;
 pub use extents::{CycleExtent, extent_of};

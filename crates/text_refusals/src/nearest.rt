@@ -27,27 +27,27 @@ fn changed_name<'n>(
     alloc: Global,
     changes: usize,
     word: &[u8],
-    names: &[&'n str],
-) -> Result<Option<&'n str>, AllocError>
+    names: &[&'n [u8]],
+) -> Result<Option<&'n [u8]>, AllocError>
     ensures { IfOk result
         (λ name. option_map (λ n. n.now) name
         ≡ find (is_changed changes word.now) (map (λ n. n.now) names.now)) }
 {
-    let [name, rest @ ..] = names else {
-        return Ok(None);
-    };
-    if is_changed(alloc, changes, word, name.as_bytes())? {
-        return Ok(Some(*name));
+    for name in names {
+        if is_changed(alloc, changes, word, name)? {
+            return Ok(Some(*name));
+        }
     }
-    changed_name(alloc, changes, word, rest)
+    Ok(None)
 }
 
-// The first of the names that one change makes of the word, or else two.
-fn looks_like<'n>(
+/// The first of the names that one change makes of the word, or else two.
+/// `AllocError`: an allocation failed.
+pub(crate) fn looks_like<'n>(
     alloc: Global,
-    names: &[&'n str],
+    names: &[&'n [u8]],
     word: &[u8],
-) -> Result<Option<&'n str>, AllocError>
+) -> Result<Option<&'n [u8]>, AllocError>
     ensures { IfOk result
         (λ name. option_map (λ n. n.now) name ≡ looks_like (map (λ n. n.now) names.now) word.now) }
 {
@@ -58,17 +58,26 @@ fn looks_like<'n>(
     changed_name(alloc, 2, word, names)
 }
 
-// The question whether the name was meant.
-fn asked_text(alloc: Global, name: Option<&str>) -> Result<Vec<u8>, AllocError>
+/// The question whether the name was meant.
+/// `AllocError`: an allocation failed.
+pub(crate) fn asked_text(alloc: Global, name: Option<&[u8]>) -> Result<Vec<u8>, AllocError>
     ensures { IfOk result (λ text. text.items ≡ asked_text (option_map (λ n. n.now) name.entry)) }
 {
     let mut out = Vec::new(alloc);
     if let Some(name) = name {
         put(&mut out, b"; did you mean ")?;
-        put(&mut out, name.as_bytes())?;
+        put(&mut out, name)?;
         put(&mut out, b"?")?;
     }
     Ok(out)
+}
+
+// The bytes of each name.
+fn bytes_of<'n>(alloc: Global, names: &[&'n str]) -> Result<Vec<&'n [u8]>, AllocError>
+    ensures { IfOk result
+        (λ bytes. map (λ b. b.now) bytes.items ≡ map (λ n. n.now) names.now) }
+{
+    names.iter().map(|name| name.as_bytes()).collect(alloc)
 }
 
 /// The question whether one of the names was meant that the word looks like, if it looks like one.
@@ -76,6 +85,7 @@ fn asked_text(alloc: Global, name: Option<&str>) -> Result<Vec<u8>, AllocError>
 pub(crate) fn meant_text(alloc: Global, names: &[&str], word: &[u8]) -> Result<Vec<u8>, AllocError>
     ensures { IfOk result (λ text. text.items ≡ meant_text (map (λ n. n.now) names.now) word.now) }
 {
-    let name = looks_like(alloc, names, word)?;
+    let names = bytes_of(alloc, names)?;
+    let name = looks_like(alloc, &names, word)?;
     asked_text(alloc, name)
 }

@@ -558,8 +558,12 @@ fn has_list(asked: &Asked<'_>, table: &OutlineTable<'_>) -> bool
     }
 }
 
-// The tables and values of a statement's text.
-fn statement_items(alloc: Global, text: &[u8]) -> Result<Vec<OutlineItem<'_>>, AllocError>
+/// The tables and values of a statement's text.
+/// `AllocError`: an allocation failed.
+pub(crate) fn statement_items(
+    alloc: Global,
+    text: &[u8],
+) -> Result<Vec<OutlineItem<'_>>, AllocError>
     ensures { IfOk result
         (λ items. map item_of items.items ≡ items_of statement_tables text.now) }
 {

@@ -7,7 +7,7 @@ use Rattle.source_reports.specs.Assembly.{IsAsmReport, IsSource, IsSourceRefused
 use Rattle.source_reports.specs.DraftReport.{IsDraftOnRefused, IsDraftOnReport, IsDraftRefused, IsDraftReport, IsDraftable, IsDraftableOn}
 use Rattle.source_reports.specs.ListReport.{IsListReport}
 use Rattle.machine_reports.specs.Debug.{IsDebugReport}
-use Rattle.machine_reports.specs.Machine.{IsMachineReport, ShowsRegisters, ShowsSteps}
+use Rattle.machine_reports.specs.Machine.{IsMachineReport, ShowsRegisters, lines_end}
 use Rattle.machine_reports.specs.RunTo.{IsRunToRefused, IsRunToReport, IsRunnableTo}
 use Rattle.bound_reports.specs.VisitsReport.{AreAccepted, AreRefused, IsVisitsReport}
 use Rattle.explain_reports.specs.Check.{IsAnswer, IsCheckRefused, IsCheckable}
@@ -18,7 +18,7 @@ use Rattle.follow_reports.specs.FollowVisits.{AreFollowable, AreNotFollowed, IsF
 use Rattle.command_line.specs.Rows.{asked_of}
 use Rattle.response_reports.specs.RespondReport.{IsAnswerable, IsRespondRefused, IsRespondReport}
 use Rattle.arcwcet.specs.Kept.{inputs_lent}
-use Rattle.arcwcet.specs.Reports.{answered, bursts_of, fiq_source_in, form_of, judged, question_in, rate_of, report_by, version_report}
+use Rattle.arcwcet.specs.Reports.{answered, bursts_of, fiq_source_in, form_of, judged, question_in, rate_of, report_by, trace_end, trace_shows, version_report}
 use Rattle.arcwcet.proofs.RunLemmas.{answered_judged, answered_unpriced_report, answered_yes, same_answer}
 use Rattle.arcwcet.proofs.reports.print.Goals as goal
 
@@ -77,18 +77,18 @@ unfolding report_by
 returns-in-Run g c =
     let i = inputs_lent c.args.job.inputs in
     rw (c.in-Run.is)
-    (same_answer g.O.Output.taken g.O.Output.failures c.args.out.now c.machine_report.new.out (judged i.profile (IsMachineReport ShowsRegisters i.source i.second) (IsRunRefused i.source i.second)) c.machine_report.result (fault_only c.alone-in-Run.result) c.alone-in-Run.ensures
-    (answered_judged g.O.Output.taken g.O.Output.failures c.args.out.now c.machine_report.new.out i.profile (IsMachineReport ShowsRegisters i.source i.second) (IsRunnable i.source i.second) (IsRunRefused i.source i.second)
+    (same_answer g.O.Output.taken g.O.Output.failures c.args.out.now c.machine_report.new.out (judged i.profile (IsMachineReport ShowsRegisters lines_end i.source i.second) (IsRunRefused i.source i.second)) c.machine_report.result (fault_only c.alone-in-Run.result) c.alone-in-Run.ensures
+    (answered_judged g.O.Output.taken g.O.Output.failures c.args.out.now c.machine_report.new.out i.profile (IsMachineReport ShowsRegisters lines_end i.source i.second) (IsRunnable i.source i.second) (IsRunRefused i.source i.second)
     c.machine_report.result c.machine_report.ensures))
 
 pub returns-in-Trace : goal.returns-in-Trace
 unfolding report_by
 returns-in-Trace g c =
     let i = inputs_lent c.args.job.inputs in
+    let json = c.args.job.request.now.json in
     rw (c.in-Trace.is)
-    (same_answer g.O.Output.taken g.O.Output.failures c.args.out.now c.machine_report-in-Trace.new.out (judged i.profile (IsMachineReport ShowsSteps i.source i.second) (IsRunRefused i.source i.second)) c.machine_report-in-Trace.result (fault_only c.alone-in-Trace.result) c.alone-in-Trace.ensures
-    (answered_judged g.O.Output.taken g.O.Output.failures c.args.out.now c.machine_report-in-Trace.new.out i.profile (IsMachineReport ShowsSteps i.source i.second) (IsRunnable i.source i.second) (IsRunRefused i.source i.second)
-    c.machine_report-in-Trace.result c.machine_report-in-Trace.ensures))
+    (answered_judged g.O.Output.taken g.O.Output.failures c.args.out.now c.print_trace.new.out i.profile (IsMachineReport (trace_shows json) (trace_end json) i.source i.second) (IsRunnable i.source i.second) (IsRunRefused i.source i.second)
+    (fault_only c.print_trace.result) c.print_trace.ensures)
 
 pub returns-in-RunTo : goal.returns-in-RunTo
 unfolding report_by
@@ -96,17 +96,18 @@ returns-in-RunTo g c =
     let i = inputs_lent c.args.job.inputs in
     let word = c.args.job.request.now.word.now in
     rw (c.in-RunTo.is)
-    (answered_judged g.O.Output.taken g.O.Output.failures c.args.out.now c.print_run_to.new.out i.profile (IsRunToReport ShowsRegisters i.source i.second word) (IsRunnableTo i.source i.second word) (IsRunToRefused i.source i.second word)
+    (answered_judged g.O.Output.taken g.O.Output.failures c.args.out.now c.print_run_to.new.out i.profile (IsRunToReport ShowsRegisters lines_end i.source i.second word) (IsRunnableTo i.source i.second word) (IsRunToRefused i.source i.second word)
     (fault_only c.print_run_to.result) c.print_run_to.ensures)
 
 pub returns-in-TraceTo : goal.returns-in-TraceTo
 unfolding report_by
 returns-in-TraceTo g c =
     let i = inputs_lent c.args.job.inputs in
+    let json = c.args.job.request.now.json in
     let word = c.args.job.request.now.word.now in
     rw (c.in-TraceTo.is)
-    (answered_judged g.O.Output.taken g.O.Output.failures c.args.out.now c.print_run_to-in-TraceTo.new.out i.profile (IsRunToReport ShowsSteps i.source i.second word) (IsRunnableTo i.source i.second word) (IsRunToRefused i.source i.second word)
-    (fault_only c.print_run_to-in-TraceTo.result) c.print_run_to-in-TraceTo.ensures)
+    (answered_judged g.O.Output.taken g.O.Output.failures c.args.out.now c.print_trace_to.new.out i.profile (IsRunToReport (trace_shows json) (trace_end json) i.source i.second word) (IsRunnableTo i.source i.second word) (IsRunToRefused i.source i.second word)
+    (fault_only c.print_trace_to.result) c.print_trace_to.ensures)
 
 pub returns-in-Debug : goal.returns-in-Debug
 unfolding report_by

@@ -11,6 +11,6 @@ returns g c =
     let i = inputs_lent c.args.job.inputs in
     let old = c.args.out.now in
     let new = c.run_to_report.new.out in
-    let by = λ (word : List ℕ) (answer : Result Bool ReportFault). Priced i.profile (λ p. ReportsRunTo g.F.Front.shows g.O.Output.taken g.O.Output.failures i.source i.second word p old new answer) old new answer in
+    let by = λ (word : List ℕ) (answer : Result Bool ReportFault). Priced i.profile (λ p. ReportsRunTo g.F.Front.shows g.F.Front.ends g.O.Output.taken g.O.Output.failures i.source i.second word p old new answer) old new answer in
     subst (by (asked_of c.args.job.request.now).word) (sym c.alone.ensures)
     (subst (λ (word : List ℕ). by word c.run_to_report.result) c.as_bytes.ensures.value c.run_to_report.ensures)

@@ -1,6 +1,4 @@
-use Rattle.std.proofs.Common.{◌∙◌, ◌≡◌, ap, sym}
-use Rattle.bus_ticks.specs.declared.profile.Class.{Class}
-use Rattle.bus_ticks.specs.declared.profile.Class.TheVariants.{Any}
+use Rattle.std.proofs.Common.{◌∙◌, ap, sym}
 use Rattle.statement.specs.Stated.{class_at}
 use Rattle.std.proofs.lemmas.Bool.{false≢true}
 use Rattle.justify_reports.proofs.classed.is_classed.Goals as goal

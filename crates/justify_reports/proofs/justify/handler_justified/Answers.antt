@@ -1,4 +1,4 @@
-use Rattle.std.proofs.Common.{◌∙◌, List, ap, subst, sym}
+use Rattle.std.proofs.Common.{◌∙◌, List, Option, ap, subst, sym}
 use Rattle.std.specs.Prelude.{IfSome}
 use Rattle.control_flow.specs.Graph.{IsFlowGraph}
 use Rattle.image.specs.Image.{Words}
@@ -6,6 +6,8 @@ use Rattle.handlers.specs.Report.{BeforeOutput, IsRefused}
 use Rattle.handlers.proofs.HandlerLemmas.{refused_as}
 use Rattle.known_places.specs.Destinations.{AreDestinations}
 use Rattle.known_places.specs.OnTrust.{Justifies}
+use Rattle.known_places.specs.Outside.{AreOutside}
+use Rattle.known_words.specs.declared.words.Range.{Range}
 use Rattle.known_places.specs.declared.destination.Destination.{Destination}
 use Rattle.justify_reports.specs.JustifyReport.{IsJustifyText, is_enough}
 use Rattle.justify_reports.specs.Rows.{AreStatedRows}
@@ -35,12 +37,15 @@ returns-clause-shows c =
     let seen = c.in_ok-seen.seen in
     let left = seen.left in
     let goes = seen.destinations.items in
+    let outside = seen.outside.items in
     let rows = c.in_ok-rows.rows.items in
     justified j.source.now j.statement.now c.args.profile.now read c.requires.said h.statement h.graph h.tree c.requires.loops c.requires.tree c.run_law.ensures
-    j.given.now j.all c.is_enough.result left goes rows found c.in_ok-text.text.items c.in_ok-found.ensures.longest c.in_ok-found.ensures.allowed
+    j.given.now j.all c.is_enough.result left goes outside rows found c.in_ok-text.text.items c.in_ok-found.ensures.longest c.in_ok-found.ensures.allowed
     (subst (λ (w : Words). IfSome left (Justifies w h.statement h.graph j.given.now)) c.requires.image c.in_ok-seen.ensures.left)
     (subst (λ (w : Words). AreDestinations w h.statement h.graph h.tree j.given.now goes) c.requires.image c.in_ok-seen.ensures.goes)
-    (subst (λ (w : Words). AreStatedRows w h.statement h.graph h.tree left goes rows) c.requires.image
-    (subst (λ (ds : List Destination). AreStatedRows h.image.now h.statement h.graph h.tree left ds rows) c.deref.ensures.value c.in_ok-rows.ensures))
-    (subst (λ (rs : List Row). IsJustifyText read j.given.now left rs found.bound c.args.profile.now.burst c.in_ok-text.text.items) c.deref-2.ensures.value c.in_ok-text.ensures)
-    (c.is_enough.ensures ∙ ap (is_enough j.all) c.deref-3.ensures.value)
+    (subst (λ (w : Words). AreOutside w h.statement h.graph h.tree j.given.now outside) c.requires.image c.in_ok-seen.ensures.outside)
+    (subst (λ (w : Words). AreStatedRows w h.statement h.graph h.tree left goes outside rows) c.requires.image
+    (subst (λ (ds : List Destination). AreStatedRows h.image.now h.statement h.graph h.tree left ds outside rows) c.deref.ensures.value
+    (subst (λ (os : List (Option Range)). AreStatedRows h.image.now h.statement h.graph h.tree left c.deref.result.now os rows) c.deref-2.ensures.value c.in_ok-rows.ensures)))
+    (subst (λ (rs : List Row). IsJustifyText read j.given.now left rs found.bound c.args.profile.now.burst c.in_ok-text.text.items) c.deref-3.ensures.value c.in_ok-text.ensures)
+    (c.is_enough.ensures ∙ ap (is_enough j.all) c.deref-4.ensures.value)

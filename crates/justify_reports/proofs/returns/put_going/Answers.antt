@@ -33,8 +33,10 @@ returns c = λ found.
     let at = c.in-At.address in
     let calls = c.in-At.calls in
     let going =
-    c.going_of-going.ensures ∙ ap (λ t. going_of h.image.now t calls c.destination_at-destination.result) c.target_at-target.ensures.value
-    ∙ ap (going_of h.image.now (target_of h.statement at) calls) c.destination_at-destination.ensures in
+    c.going_of-going.ensures
+    ∙ ap (λ t. going_of h.image.now c.leave-leave.result t calls c.destination_at-destination.result) c.target_at-target.ensures.value
+    ∙ ap (λ class. going_of h.image.now class (target_of h.statement at) calls c.destination_at-destination.result) c.leave-leave.ensures
+    ∙ ap (going_of h.image.now h.statement.leave (target_of h.statement at) calls) c.destination_at-destination.ensures in
     on_ok_weaker c.put_graver.result
     (λ puts. put h.image.now h.statement h.graph h.tree goes c.args.number (get nat_cmp c.args.found.now) calls at (sym c.place_in.ensures ∙ c.in-At.is)
     (c.has_return.ensures.0 c.if-not-has_return.false) c.going_of-going.result going (get nat_cmp c.put_graver.new.found) puts found)

@@ -1,4 +1,4 @@
-use Rattle.std.proofs.Common.{◌∙◌, ◌++◌, [], ℕ, List, ap}
+use Rattle.std.proofs.Common.{◌∙◌, ◌++◌, ℕ, List, ap}
 use Rattle.text_rows.specs.Columns.{in_columns}
 use Rattle.justify_reports.specs.RowTexts.{kind_text, stated_text, verdict_text}
 use Rattle.justify_reports.proofs.TextLemmas.{after}

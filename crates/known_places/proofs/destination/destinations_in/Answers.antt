@@ -1,13 +1,14 @@
 use Rattle.std.proofs.Common.{arith, length}
 use Rattle.known_places.specs.Destinations.{PlaceGoesTo}
-use Rattle.known_places.proofs.TableLemmas.{destinations_more}
+use Rattle.known_places.specs.declared.destination.Destination.TheVariants.{Unknown}
+use Rattle.known_places.proofs.TableLemmas.{one_more}
 use Rattle.known_places.proofs.destination.destinations_in.Goals as goal
 
 pub loop-number-preserved : goal.loop-number-preserved
 loop-number-preserved c =
     let h = c.args.handler.now in
     let put = c.in_ok-put_destination.ensures in
-    destinations_more (PlaceGoesTo h.image.now h.graph h.tree c.args.table.now) c.loop-number.found.items
+    one_more Unknown (PlaceGoesTo h.image.now h.graph h.tree c.args.table.now) c.loop-number.found.items
     c.put_destination.new.found.items c.loop-number.number put.0 c.loop-number.invariant.0 c.loop-number.invariant.1 put.1
     put.2
 

@@ -1,10 +1,18 @@
+use Rattle.std.proofs.Common.{subst, sym}
+use Rattle.kept_runs.specs.Transfers.{HasNoOther, words_of}
+use Rattle.known_places.specs.Transfers.{IsTransferred}
 use Rattle.known_places.proofs.transfers.moves_in.Goals as goal
 
-pub returns-in-SingleImmediate : goal.returns-in-SingleImmediate
-returns-in-SingleImmediate c = rw c.in-SingleImmediate.is c.single_immediate_moves_in.ensures
+pub returns-in-Nothing : goal.returns-in-Nothing
+returns-in-Nothing c = λ seen entry turns regs at holds.
+    let none =
+    subst (λ k. IsTransferred entry turns k (words_of c.args.operation.now regs)) c.in-Nothing.is
+    (c.transfers_of.ensures.so entry turns regs at holds) in
+    subst (HasNoOther c.args.class) (sym none) tt
 
-pub returns-in-SingleRegister : goal.returns-in-SingleRegister
-returns-in-SingleRegister c = rw c.in-SingleRegister.is c.single_register_moves_in.ensures
-
-pub returns-in-Block : goal.returns-in-Block
-returns-in-Block c = rw c.in-Block.is c.block_moves_in.ensures
+pub returns-in-From : goal.returns-in-From
+returns-in-From c = λ seen entry turns regs at holds.
+    let t =
+    subst (λ k. IsTransferred entry turns k (words_of c.args.operation.now regs)) c.in-From.is
+    (c.transfers_of.ensures.so entry turns regs at holds) in
+    subst (HasNoOther c.args.class) (sym t.2) (c.known_words_are_in.ensures seen entry turns t.0 t.3 t.1)

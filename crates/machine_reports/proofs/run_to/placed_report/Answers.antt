@@ -1,8 +1,6 @@
-use Rattle.std.proofs.Common.{◌∙◌, ◌++◌, ℕ, List, ap, append_assoc, subst}
-use Rattle.arm2_exec.specs.Step.{address_in as next_address}
+use Rattle.std.proofs.Common.{◌∙◌, ◌++◌, ℕ, List, Some, ap, subst}
 use Rattle.arm2_exec.specs.declared.machine.Input.{Input}
-use Rattle.machine_reports.specs.Machine.{end_text}
-use Rattle.machine_reports.specs.RunTo.{ShowsRunTo, reached_text}
+use Rattle.machine_reports.specs.RunTo.{ShowsRunTo}
 use Rattle.machine_reports.proofs.MachineLemmas.{none_is}
 use Rattle.machine_reports.proofs.run_to.placed_report.Goals as goal
 
@@ -13,8 +11,6 @@ returns-clause-shown g c = λ source machine word profile is to_is.
     let ran = c.in_ok-ran.ran in
     let after = c.write_front_to.new.machine in
     let added = c.in_ok-ran.ensures in
-    let end = end_text ran after in
-    let reached = reached_text to (next_address after.regs) in
     record {
       state = placed.machine;
       inputs = c.in_ok-inputs.inputs.items;
@@ -27,9 +23,7 @@ returns-clause-shown g c = λ source machine word profile is to_is.
       shown = subst (λ (inputs : List Input). ShowsRunTo g.F.Front.shows to placed.machine inputs ran after added.0) c.deref.ensures.value added.1;
       done_is = none_is ran.stopped c.is_none.result c.is_none.ensures;
       text_is =
-          c.in_ok-put_end.ensures
-          ∙ ap (λ (x : List ℕ). x ++ end)
-          (c.in_ok-put_reached.ensures
-          ∙ ap (λ (x : List ℕ). x ++ reached) (added.2 ∙ ap (λ (x : List ℕ). x ++ added.0) c.new-text.ensures.bytes))
-          ∙ append_assoc added.0 reached end;
+          c.in_ok-write_end.ensures
+          ∙ ap (λ (x : List ℕ). x ++ g.F.Front.ends (Some to) ran after)
+          (added.2 ∙ ap (λ (x : List ℕ). x ++ added.0) c.new-text.ensures.bytes);
     }

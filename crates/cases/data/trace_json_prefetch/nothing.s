@@ -1,0 +1,1 @@
+; No word: no page lies at 1000000.

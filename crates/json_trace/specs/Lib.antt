@@ -1,0 +1,5 @@
+pub mod Json
+pub mod StepLine
+pub mod Records
+pub mod Planned
+pub mod Facts
