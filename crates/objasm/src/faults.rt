@@ -1,0 +1,53 @@
+ghost use Rattle.std.specs.Prelude.{◌≡◌};
+ghost use Rattle.objasm.specs.declared.faults.LineFault.TheVariants.{Memory};
+
+use std::alloc::{AllocError, AllocFailed};
+use thiserror::Error;
+
+/// Why a line of the dialect is not translated.
+#[derive(Clone, Copy, Debug, PartialEq, Eq, Drop, Error)]
+pub enum LineFault {
+    /// An allocation failed.
+    #[error("Memory")]
+    Memory,
+    /// A directive of ObjAsm that is not translated, or no word where one stands.
+    #[error("UnknownDirective")]
+    UnknownDirective,
+    /// What is to be set begins with a digit or is the name of a register.
+    #[error("BadName")]
+    BadName,
+    /// A name that is set before, or the label of a line that is a name set.
+    #[error("NameTwice")]
+    NameTwice,
+    /// A name in an expression that no line sets, or in a line that sets a name none above it.
+    #[error("NameMissing")]
+    NameMissing,
+    /// What stands for a number is no expression.
+    #[error("BadExpression")]
+    BadExpression,
+    /// Digits that are no number below 2^32.
+    #[error("BadNumber")]
+    BadNumber,
+    /// A division by 0.
+    #[error("DivisionByZero")]
+    DivisionByZero,
+    /// A register of a number above 15.
+    #[error("BadRegister")]
+    BadRegister,
+}
+
+impl From<AllocError> for LineFault {
+    ghost from_gives = { λ _ fault. fault ≡ Memory };
+
+    fn from(_refused: AllocError) -> LineFault {
+        LineFault::Memory
+    }
+}
+
+impl<T: Drop> From<AllocFailed<T>> for LineFault {
+    ghost from_gives = { λ _ fault. fault ≡ Memory };
+
+    fn from(_refused: AllocFailed<T>) -> LineFault {
+        LineFault::Memory
+    }
+}
