@@ -1,2 +1,3 @@
 mod PartLaws
 mod EvaluationLaws
+mod SymbolLaws

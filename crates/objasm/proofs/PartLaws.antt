@@ -1,8 +1,8 @@
 -- The parts of a text, from its front.
-use Rattle.std.proofs.Common.{◌≡◌, ◌<◌, ℕ, Bool, true, false, cond, List, [], ◌∷◌, ◌++◌, length, take, drop, get_or, refl, sym, ap, ◌∙◌, inl, inr, arith, length-take}
+use Rattle.std.proofs.Common.{◌≡◌, ◌<◌, ℕ, Bool, true, false, cond, ◌+◌, ◌-◌, map, length-drop, List, [], ◌∷◌, ◌++◌, length, take, drop, get_or, refl, sym, ap, ◌∙◌, inl, inr, arith, length-take}
 use Rattle.std.specs.List.{prefix_len, list_all}
 use Rattle.std.proofs.lemmas.Bool.{and_parts, cases_Bool}
-use Rattle.std.proofs.lemmas.List.{take-append-drop}
+use Rattle.std.proofs.lemmas.List.{drop-map, take-append-drop, take-map, take_all}
 use Rattle.std.proofs.lemmas.List.Sums.{prefix_len-le-length}
 use Rattle.asm_text.specs.Pieces.{is_name}
 use Rattle.asm_text.proofs.PieceLaws.{first_passes, prefix_all, prefix_stop}
@@ -59,3 +59,16 @@ run_first text n is lt h =
 pub byte_first : (text : List ℕ) → 0 < length text → is_name (get_or text 0 0) ≡ false → parts text ≡ Byte (get_or text 0 0) ∷ parts (drop 1 text)
 byte_first [] lt h = absurd (omega arith)
 byte_first (b ∷ bs) lt h = byte_step b bs h
+
+-- how many items of a list a test passes, by what it tests of each
+pub prefix_of_map : {X Y : Type 0} (p : Y → Bool) (f : X → Y) (xs : List X) → prefix_len (λ x. p (f x)) xs ≡ prefix_len p (map f xs)
+prefix_of_map p f [] = refl
+prefix_of_map p f (x ∷ xs) = ap (λ (n : ℕ). cond (p (f x)) (1 + n) 0) (prefix_of_map p f xs)
+
+-- what a slice from n on stands for
+pub rest_mapped : {X Y : Type 0} (f : X → Y) (xs : List X) (n m : ℕ) → n ≡ m → map f (take (length xs - n) (drop n xs)) ≡ drop m (map f xs)
+rest_mapped f xs n m is =
+    ap (map f) (take_all (length xs - n) (drop n xs) (omega (arith, length-drop n xs))) ∙ sym (drop-map f n xs) ∙ ap (λ (k : ℕ). drop k (map f xs)) is
+
+pub front_mapped : {X Y : Type 0} (f : X → Y) (xs : List X) (n m : ℕ) → n ≡ m → map f (take n xs) ≡ take m (map f xs)
+front_mapped f xs n m is = sym (take-map f n xs) ∙ ap (λ (k : ℕ). take k (map f xs)) is

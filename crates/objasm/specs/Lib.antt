@@ -4,3 +4,6 @@ pub mod Expressions
 pub mod Evaluation
 pub mod Names
 pub mod Symbols
+pub mod Settings
+pub mod Words
+pub mod PlainLines

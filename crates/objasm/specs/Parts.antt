@@ -1,6 +1,7 @@
 -- The parts of a line: runs of letters, digits and `_`, and other bytes.
-use Rattle.std.specs.Prelude.{◌==◌, ◌||◌, ℕ, Bool, List, [], ◌∷◌, if◌then◌else◌}
-use Rattle.asm_text.specs.Pieces.{is_name}
+use Rattle.std.specs.Prelude.{◌==◌, ◌||◌, ℕ, Bool, true, false, not, List, [], ◌∷◌, take, drop, if◌then◌else◌}
+use Rattle.std.specs.List.{prefix_len}
+use Rattle.asm_text.specs.Pieces.{is_blank, is_name}
 use Rattle.objasm.specs.declared.token.Token.{Token}
 use Rattle.objasm.specs.declared.token.Token.TheVariants as code
 
@@ -24,3 +25,28 @@ parts (b ∷ bs) = if is_name b then run_before b (parts bs) else Byte b ∷ par
 -- , # [ ] { } ! ^ stand between what is written in two places of the operands
 abbrev pub is_stop : ℕ → Bool
 is_stop b = b == 44 || b == 35 || b == 91 || b == 93 || b == 123 || b == 125 || b == 33 || b == 94
+
+-- a space or a tab
+abbrev pub is_blank_part : Part → Bool
+is_blank_part (Run r) = false
+is_blank_part (Byte b) = is_blank b
+
+abbrev pub blank_len : List Part → ℕ
+blank_len ps = prefix_len is_blank_part ps
+
+abbrev pub after_blanks : List Part → List Part
+after_blanks ps = drop (blank_len ps) ps
+
+abbrev pub front_blanks : List Part → List Part
+front_blanks ps = take (blank_len ps) ps
+
+abbrev pub goes_on : Part → Bool
+goes_on (Run r) = true
+goes_on (Byte b) = not (is_stop b)
+
+-- the parts up to the next stop
+abbrev pub field_len : List Part → ℕ
+field_len ps = prefix_len goes_on ps
+
+abbrev pub first_field : List Part → List Part
+first_field ps = take (field_len ps) ps

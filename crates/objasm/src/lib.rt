@@ -5,7 +5,10 @@ mod evaluation;
 mod faults;
 mod names;
 mod operators;
+mod plain_lines;
+mod settings;
 mod symbols;
 mod token;
+mod words;
 
 pub use faults::LineFault;

@@ -69,8 +69,8 @@ fn operator_named(name: &[u8]) -> Option<Symbol>
     }
 }
 
-// Whether a run is a number, and no name.
-fn begins_number(run: &[u8]) -> bool
+/// Whether a run is a number, and no name.
+pub(crate) fn begins_number(run: &[u8]) -> bool
     ensures { result ≡ begins_number run.now }
 {
     match run {
@@ -196,9 +196,13 @@ pub(crate) fn symbols_in(
     let mut found = Vec::new(alloc);
     let mut reading = Reading::Ready;
     for token in tokens {
-        let (symbol, next) = reading_step(names, reading, *token)?;
-        push_some(&mut found, symbol)?;
-        reading = next;
+        match reading_step(names, reading, *token) {
+            Ok((symbol, next)) => {
+                push_some(&mut found, symbol)?;
+                reading = next;
+            }
+            Err(fault) => return Err(fault),
+        }
     }
     match reading {
         Reading::Ready => Ok(found),

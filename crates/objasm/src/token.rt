@@ -1,8 +1,10 @@
 ghost use Rattle.std.specs.Prelude.{◌≡◌, ◌∷◌, ◌<◌, ◌≤◌, [], length, map, drop, MatchOption, IfOk};
 ghost use Rattle.std.specs.List.{prefix_len};
 ghost use Rattle.asm_text.specs.Pieces.{is_name};
-ghost use Rattle.objasm.specs.Parts.{is_stop, part_of, parts};
+ghost use Rattle.objasm.specs.Parts.{after_blanks, blank_len, field_len, first_field, front_blanks};
+ghost use Rattle.objasm.specs.Parts.{goes_on, is_blank_part, is_stop, part_of, parts};
 
+use asm_text::is_blank;
 use std::alloc::{AllocError, Global};
 
 // How many parts most lines have at most.
@@ -73,4 +75,73 @@ pub(crate) fn is_stop(b: u8) -> bool
     ensures { result ≡ is_stop b }
 {
     matches!(b, b',' | b'#' | b'[' | b']' | b'{' | b'}' | b'!' | b'^')
+}
+
+fn is_blank_part(token: Token<'_>) -> bool
+    ensures { result ≡ is_blank_part (part_of token.entry) }
+{
+    match token {
+        Token::Run(_) => false,
+        Token::Byte(b) => is_blank(b),
+    }
+}
+
+fn goes_on(token: Token<'_>) -> bool
+    ensures { result ≡ goes_on (part_of token.entry) }
+{
+    match token {
+        Token::Run(_) => true,
+        Token::Byte(b) => !is_stop(b),
+    }
+}
+
+fn blanks(tokens: &[Token<'_>]) -> usize
+    ensures len { result ≡ prefix_len (λ t. is_blank_part (part_of t)) tokens.now }
+    ensures within { result ≤ length tokens.now }
+{
+    tokens.iter().take_while(|t| is_blank_part(**t)).count()
+}
+
+fn places(tokens: &[Token<'_>]) -> usize
+    ensures len { result ≡ prefix_len (λ t. goes_on (part_of t)) tokens.now }
+    ensures within { result ≤ length tokens.now }
+{
+    tokens.iter().take_while(|t| goes_on(**t)).count()
+}
+
+// How many blanks parts begin with.
+fn blank_len(tokens: &[Token<'_>]) -> usize
+    ensures len { result ≡ blank_len (map part_of tokens.now) }
+    ensures within { result ≤ length tokens.now }
+{
+    blanks(tokens)
+}
+
+// How many parts are in front of the next stop.
+fn field_len(tokens: &[Token<'_>]) -> usize
+    ensures len { result ≡ field_len (map part_of tokens.now) }
+    ensures within { result ≤ length tokens.now }
+{
+    places(tokens)
+}
+
+/// The parts after the blanks that parts begin with.
+pub(crate) fn after_blanks<'a, 'b>(tokens: &'b [Token<'a>]) -> &'b [Token<'a>]
+    ensures { map part_of result.now ≡ after_blanks (map part_of tokens.now) }
+{
+    &tokens[blank_len(tokens)..]
+}
+
+/// The blanks that parts begin with.
+pub(crate) fn front_blanks<'a, 'b>(tokens: &'b [Token<'a>]) -> &'b [Token<'a>]
+    ensures { map part_of result.now ≡ front_blanks (map part_of tokens.now) }
+{
+    &tokens[..blank_len(tokens)]
+}
+
+/// The parts in front of the next stop.
+pub(crate) fn first_field<'a, 'b>(tokens: &'b [Token<'a>]) -> &'b [Token<'a>]
+    ensures { map part_of result.now ≡ first_field (map part_of tokens.now) }
+{
+    &tokens[..field_len(tokens)]
 }

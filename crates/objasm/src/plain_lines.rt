@@ -1,0 +1,347 @@
+//! What stands in our grammar for a line of the dialect.
+
+ghost use Rattle.std.specs.Prelude.{◌≡◌, ◌++◌, OnOk, IfErr, Ok, decimal, map};
+ghost use Rattle.objasm.specs.Names.{Told, meanings_of};
+ghost use Rattle.objasm.specs.Parts.{part_of};
+ghost use Rattle.objasm.specs.PlainLines.{is_label, is_label_field, is_over, offset_text, part_text, put_body};
+ghost use Rattle.objasm.specs.PlainLines.{put_field, put_instruction, put_operands, put_plain, put_statement, put_stop};
+ghost use Rattle.objasm.specs.PlainLines.{put_stops, put_value, put_word, register_text, run_text, with_parts};
+ghost use Rattle.objasm.specs.PlainLines.{written};
+
+use crate::faults::LineFault;
+use crate::names::Names;
+use crate::settings::{setting_of, value_of};
+use crate::symbols::begins_number;
+use crate::token::{Token, after_blanks, first_field, front_blanks, is_stop};
+use crate::words::{Operands, is_directive, kind_of, put_word_text};
+use itoa::Buffer;
+use std::alloc::{AllocError, Global};
+
+/// How what is written in one place of the operands is translated.
+#[derive(Clone, Copy)]
+pub enum Translation {
+    /// An expression.
+    Number,
+    /// An expression, with a `-` if its value is 2^31 or more.
+    Offset,
+    /// An expression or a label.
+    Value,
+    /// Names of registers and numbers, and what else there is.
+    Parts,
+}
+
+// How what follows this stop is translated.
+fn written(kind: Operands, stop: u8) -> Translation
+    ensures { result ≡ written kind stop }
+{
+    if stop == b'#' {
+        match kind {
+            Operands::Offsets => Translation::Offset,
+            _ => Translation::Number,
+        }
+    } else {
+        match kind {
+            Operands::Values => Translation::Value,
+            _ => Translation::Parts,
+        }
+    }
+}
+
+fn put_number(out: &mut Vec<u8>, n: u32) -> Result<(), AllocError>
+    ensures { OnOk result (out.new.items ≡ out.old.items ++ decimal n) }
+{
+    let mut buffer = Buffer::new();
+    out.extend_from_slice(buffer.format(n).as_bytes())
+}
+
+fn put_offset(out: &mut Vec<u8>, n: u32) -> Result<(), AllocError>
+    ensures { OnOk result (out.new.items ≡ out.old.items ++ offset_text n) }
+{
+    if n < 0x8000_0000 {
+        return put_number(out, n);
+    }
+    out.push(b'-')?;
+    put_number(out, u32::MAX - n + 1)
+}
+
+fn put_register(out: &mut Vec<u8>, n: u32) -> Result<(), AllocError>
+    ensures { OnOk result (out.new.items ≡ out.old.items ++ register_text n) }
+{
+    out.push(b'R')?;
+    put_number(out, n)
+}
+
+fn put_run(names: &Names, run: &[u8], out: &mut Vec<u8>) -> Result<(), AllocError>
+    ensures { OnOk result (out.new.items ≡ out.old.items ++ run_text (meanings_of names.now) run.now) }
+{
+    if let Some(n) = names.registers.get(run) {
+        return put_register(out, n);
+    }
+    match names.constants.get(run) {
+        Some(n) => put_number(out, n),
+        None => out.extend_from_slice(run),
+    }
+}
+
+fn put_part(names: &Names, token: Token<'_>, out: &mut Vec<u8>) -> Result<(), AllocError>
+    ensures { OnOk result
+        (out.new.items ≡ out.old.items ++ part_text (meanings_of names.now) (part_of token.entry)) }
+{
+    match token {
+        Token::Run(run) => put_run(names, run, out),
+        Token::Byte(b) => {
+            out.push(b)?;
+            Ok(())
+        }
+    }
+}
+
+fn put_parts(names: &Names, tokens: &[Token<'_>], out: &mut Vec<u8>) -> Result<(), AllocError>
+    ensures { OnOk result
+        (out.new.items ≡ with_parts (meanings_of names.now) (map part_of tokens.now) out.old.items) }
+{
+    for token in tokens {
+        put_part(names, *token, out)?;
+    }
+    Ok(())
+}
+
+fn is_label(names: &Names, run: &[u8]) -> bool
+    ensures { result ≡ is_label (meanings_of names.now) run.now }
+{
+    !begins_number(run) & names.constants.get(run).is_none()
+}
+
+fn is_over(tokens: &[Token<'_>]) -> bool
+    ensures { result ≡ is_over (map part_of tokens.now) }
+{
+    match tokens {
+        [] => true,
+        _ => false,
+    }
+}
+
+// Whether a place of a list of numbers has nothing or a label.
+fn is_label_field(names: &Names, tokens: &[Token<'_>]) -> bool
+    ensures { result ≡ is_label_field (meanings_of names.now) (map part_of tokens.now) }
+{
+    match after_blanks(tokens) {
+        [] => true,
+        [Token::Run(run), rest @ ..] => is_label(names, run) & is_over(after_blanks(rest)),
+        _ => false,
+    }
+}
+
+fn put_field(
+    alloc: Global,
+    names: &Names,
+    how: Translation,
+    tokens: &[Token<'_>],
+    out: &mut Vec<u8>,
+) -> Result<(), LineFault>
+    ensures ok { OnOk result
+        (put_field (meanings_of names.now) how (map part_of tokens.now) out.old.items ≡ Ok out.new.items) }
+    ensures fault { IfErr result
+        (λ fault. Told fault (put_field (meanings_of names.now) how (map part_of tokens.now) out.old.items)) }
+{
+    match how {
+        Translation::Number => {
+            let n = value_of(alloc, names, tokens)?;
+            put_number(out, n)?;
+            Ok(())
+        }
+        Translation::Offset => {
+            let n = value_of(alloc, names, tokens)?;
+            put_offset(out, n)?;
+            Ok(())
+        }
+        Translation::Value => put_value(alloc, names, tokens, out),
+        Translation::Parts => {
+            put_parts(names, tokens, out)?;
+            Ok(())
+        }
+    }
+}
+
+fn put_value(
+    alloc: Global,
+    names: &Names,
+    tokens: &[Token<'_>],
+    out: &mut Vec<u8>,
+) -> Result<(), LineFault>
+    ensures ok { OnOk result
+        (put_value (meanings_of names.now) (map part_of tokens.now) out.old.items ≡ Ok out.new.items) }
+    ensures fault { IfErr result
+        (λ fault. Told fault (put_value (meanings_of names.now) (map part_of tokens.now) out.old.items)) }
+{
+    if is_label_field(names, tokens) {
+        put_parts(names, tokens, out)?;
+        return Ok(());
+    }
+    let n = value_of(alloc, names, tokens)?;
+    put_number(out, n)?;
+    Ok(())
+}
+
+// A stop, and what follows it up to the next. Nothing where the first part is no stop.
+fn put_stop(
+    alloc: Global,
+    names: &Names,
+    kind: Operands,
+    tokens: &[Token<'_>],
+    out: &mut Vec<u8>,
+) -> Result<(), LineFault>
+    ensures ok { OnOk result
+        (put_stop (meanings_of names.now) kind (map part_of tokens.now) out.old.items ≡ Ok out.new.items) }
+    ensures fault { IfErr result
+        (λ fault. Told fault
+        (put_stop (meanings_of names.now) kind (map part_of tokens.now) out.old.items)) }
+{
+    match tokens {
+        [Token::Byte(b), rest @ ..] => {
+            if !is_stop(*b) {
+                return Ok(());
+            }
+            out.push(*b)?;
+            put_field(alloc, names, written(kind, *b), first_field(rest), out)
+        }
+        _ => Ok(()),
+    }
+}
+
+// Each stop, and what follows it.
+fn put_stops(
+    alloc: Global,
+    names: &Names,
+    kind: Operands,
+    tokens: &[Token<'_>],
+    out: &mut Vec<u8>,
+) -> Result<(), LineFault>
+    ensures ok { OnOk result
+        (put_stops (meanings_of names.now) kind (map part_of tokens.now) out.old.items ≡ Ok out.new.items) }
+    ensures fault { IfErr result
+        (λ fault. Told fault
+        (put_stops (meanings_of names.now) kind (map part_of tokens.now) out.old.items)) }
+{
+    for index in 0..tokens.len() {
+        put_stop(alloc, names, kind, &tokens[index..], out)?;
+    }
+    Ok(())
+}
+
+fn put_operands(
+    alloc: Global,
+    names: &Names,
+    kind: Operands,
+    tokens: &[Token<'_>],
+    out: &mut Vec<u8>,
+) -> Result<(), LineFault>
+    ensures ok { OnOk result
+        (put_operands (meanings_of names.now) kind (map part_of tokens.now) out.old.items
+        ≡ Ok out.new.items) }
+    ensures fault { IfErr result
+        (λ fault. Told fault
+        (put_operands (meanings_of names.now) kind (map part_of tokens.now) out.old.items)) }
+{
+    put_field(alloc, names, written(kind, b','), first_field(tokens), out)?;
+    put_stops(alloc, names, kind, tokens, out)
+}
+
+fn put_instruction(
+    alloc: Global,
+    names: &Names,
+    word: &[u8],
+    tokens: &[Token<'_>],
+    out: &mut Vec<u8>,
+) -> Result<(), LineFault>
+    ensures ok { OnOk result
+        (put_instruction (meanings_of names.now) word.now (map part_of tokens.now) out.old.items
+        ≡ Ok out.new.items) }
+    ensures fault { IfErr result
+        (λ fault. Told fault
+        (put_instruction (meanings_of names.now) word.now (map part_of tokens.now) out.old.items)) }
+{
+    if is_directive(word) {
+        return Err(LineFault::UnknownDirective);
+    }
+    put_word_text(word, out)?;
+    put_parts(names, front_blanks(tokens), out)?;
+    put_operands(alloc, names, kind_of(word), after_blanks(tokens), out)
+}
+
+fn put_word(
+    alloc: Global,
+    names: &Names,
+    tokens: &[Token<'_>],
+    out: &mut Vec<u8>,
+) -> Result<(), LineFault>
+    ensures ok { OnOk result
+        (put_word (meanings_of names.now) (map part_of tokens.now) out.old.items ≡ Ok out.new.items) }
+    ensures fault { IfErr result
+        (λ fault. Told fault (put_word (meanings_of names.now) (map part_of tokens.now) out.old.items)) }
+{
+    match tokens {
+        [] => Ok(()),
+        [Token::Run(word), rest @ ..] => put_instruction(alloc, names, word, rest, out),
+        _ => Err(LineFault::UnknownDirective),
+    }
+}
+
+// What follows the label of a line.
+fn put_statement(
+    alloc: Global,
+    names: &Names,
+    tokens: &[Token<'_>],
+    out: &mut Vec<u8>,
+) -> Result<(), LineFault>
+    ensures ok { OnOk result
+        (put_statement (meanings_of names.now) (map part_of tokens.now) out.old.items ≡ Ok out.new.items) }
+    ensures fault { IfErr result
+        (λ fault. Told fault
+        (put_statement (meanings_of names.now) (map part_of tokens.now) out.old.items)) }
+{
+    put_parts(names, front_blanks(tokens), out)?;
+    put_word(alloc, names, after_blanks(tokens), out)
+}
+
+// A line that sets nothing.
+fn put_plain(
+    alloc: Global,
+    names: &Names,
+    tokens: &[Token<'_>],
+    out: &mut Vec<u8>,
+) -> Result<(), LineFault>
+    ensures ok { OnOk result
+        (put_plain (meanings_of names.now) (map part_of tokens.now) out.old.items ≡ Ok out.new.items) }
+    ensures fault { IfErr result
+        (λ fault. Told fault (put_plain (meanings_of names.now) (map part_of tokens.now) out.old.items)) }
+{
+    match tokens {
+        [Token::Run(label), rest @ ..] => {
+            if names.is_set(label) {
+                return Err(LineFault::NameTwice);
+            }
+            out.extend_from_slice(label)?;
+            put_statement(alloc, names, rest, out)
+        }
+        _ => put_statement(alloc, names, tokens, out),
+    }
+}
+
+/// Puts what stands for a line without its comment: nothing where it sets a name.
+pub(crate) fn put_body(
+    alloc: Global,
+    names: &Names,
+    tokens: &[Token<'_>],
+    out: &mut Vec<u8>,
+) -> Result<(), LineFault>
+    ensures ok { OnOk result
+        (put_body (meanings_of names.now) (map part_of tokens.now) out.old.items ≡ Ok out.new.items) }
+    ensures fault { IfErr result
+        (λ fault. Told fault (put_body (meanings_of names.now) (map part_of tokens.now) out.old.items)) }
+{
+    match setting_of(tokens) {
+        Some(_) => Ok(()),
+        None => put_plain(alloc, names, tokens, out),
+    }
+}

@@ -1,0 +1,149 @@
+//! What the lines of a source set.
+
+ghost use Rattle.std.specs.Prelude.{◌≡◌, ◌≤◌, IfOk, IfErr, OnOk, Ok, length, map, option_map};
+ghost use Rattle.objasm.specs.Names.{Told, meanings_of};
+ghost use Rattle.objasm.specs.Parts.{after_blanks, blank_len, is_blank_part, part_of};
+ghost use Rattle.objasm.specs.Settings.{is_no_name, kind_named, outcome, set_as, setting_of, setting_value};
+ghost use Rattle.objasm.specs.Settings.{settled, setting_view, value_of};
+
+use crate::evaluation::evaluated;
+use crate::faults::LineFault;
+use crate::names::{Kind, Names};
+use crate::symbols::{begins_number, symbols_in};
+use crate::token::{Token, after_blanks};
+use asm_text::register_of;
+use std::alloc::Global;
+
+// The number of the last register.
+const LAST_REGISTER: u32 = 15;
+
+/// What a line sets: a name, for what, and the parts of its value.
+#[derive(Clone, Copy)]
+pub(crate) struct Setting<'a, 'b> {
+    pub name: &'a [u8],
+    pub kind: Kind,
+    pub value: &'b [Token<'a>],
+}
+
+fn outcome(found: Option<Option<u32>>) -> Result<u32, LineFault>
+    ensures { result ≡ outcome found }
+{
+    match found {
+        Some(Some(n)) => Ok(n),
+        Some(None) => Err(LineFault::DivisionByZero),
+        None => Err(LineFault::BadExpression),
+    }
+}
+
+/// The value of an expression.
+pub(crate) fn value_of(
+    alloc: Global,
+    names: &Names,
+    tokens: &[Token<'_>],
+) -> Result<u32, LineFault>
+    ensures ok { IfOk result (λ n. value_of (meanings_of names.now) (map part_of tokens.now) ≡ Ok n) }
+    ensures fault { IfErr result
+        (λ fault. Told fault (value_of (meanings_of names.now) (map part_of tokens.now))) }
+{
+    let symbols = symbols_in(alloc, names, tokens)?;
+    let found = evaluated(alloc, &symbols)?;
+    outcome(found)
+}
+
+// What the word after a name sets it for.
+fn kind_named(word: &[u8]) -> Option<Kind>
+    ensures { result ≡ kind_named word.now }
+{
+    if word == b"EQU".as_slice() || word == b"equ".as_slice() {
+        Some(Kind::Constant)
+    } else if word == b"RN".as_slice() || word == b"rn".as_slice() {
+        Some(Kind::Register)
+    } else {
+        None
+    }
+}
+
+fn set_as<'a, 'b>(name: &'a [u8], tokens: &'b [Token<'a>]) -> Option<Setting<'a, 'b>>
+    ensures { option_map setting_view result ≡ set_as name.now (map part_of tokens.now) }
+{
+    match tokens {
+        [Token::Run(word), value @ ..] => {
+            let kind = kind_named(word)?;
+            Some(Setting { name, kind, value })
+        }
+        [Token::Byte(b), value @ ..] => {
+            if *b == b'*' {
+                let kind = Kind::Constant;
+                Some(Setting { name, kind, value })
+            } else {
+                None
+            }
+        }
+        _ => None,
+    }
+}
+
+/// What a line sets, if it sets a name.
+pub(crate) fn setting_of<'a, 'b>(tokens: &'b [Token<'a>]) -> Option<Setting<'a, 'b>>
+    ensures { option_map setting_view result ≡ setting_of (map part_of tokens.now) }
+{
+    match tokens {
+        [Token::Run(name), rest @ ..] => set_as(name, after_blanks(rest)),
+        _ => None,
+    }
+}
+
+// Whether a name cannot be set.
+fn is_no_name(name: &[u8]) -> bool
+    ensures { result ≡ is_no_name name.now }
+{
+    begins_number(name) || register_of(name).is_some()
+}
+
+// The value that a name is set to.
+fn setting_value(
+    alloc: Global,
+    names: &Names,
+    setting: Setting<'_, '_>,
+) -> Result<u32, LineFault>
+    ensures ok { IfOk result
+        (λ n. setting_value (meanings_of names.now) (setting_view setting.entry) ≡ Ok n) }
+    ensures fault { IfErr result
+        (λ fault. Told fault (setting_value (meanings_of names.now) (setting_view setting.entry))) }
+{
+    if is_no_name(setting.name) {
+        return Err(LineFault::BadName);
+    }
+    if names.is_set(setting.name) {
+        return Err(LineFault::NameTwice);
+    }
+    let value = value_of(alloc, names, setting.value)?;
+    match setting.kind {
+        Kind::Register => {
+            if value > LAST_REGISTER {
+                Err(LineFault::BadRegister)
+            } else {
+                Ok(value)
+            }
+        }
+        Kind::Constant => Ok(value),
+    }
+}
+
+/// Sets what a line sets.
+pub(crate) fn settle(
+    alloc: Global,
+    names: &mut Names,
+    tokens: &[Token<'_>],
+) -> Result<(), LineFault>
+    ensures ok { OnOk result
+        (settled (meanings_of names.old) (map part_of tokens.now) ≡ Ok (meanings_of names.new)) }
+    ensures fault { IfErr result
+        (λ fault. Told fault (settled (meanings_of names.old) (map part_of tokens.now))) }
+{
+    let Some(setting) = setting_of(tokens) else {
+        return Ok(());
+    };
+    let value = setting_value(alloc, names, setting)?;
+    names.put(alloc, setting.name, setting.kind, value)
+}

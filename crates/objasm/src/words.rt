@@ -1,0 +1,107 @@
+//! The words of ObjAsm that have a meaning of their own.
+
+ghost use Rattle.std.specs.Prelude.{◌≡◌, ◌++◌, OnOk, map};
+ghost use Rattle.objasm.specs.Words.{cond_place, is_directive, is_one_of, kind_of, known_cond, word_text};
+
+use std::alloc::AllocError;
+
+/// What the operands of a word are.
+#[derive(Clone, Copy)]
+pub enum Operands {
+    /// Numbers: those of DCD, ORG and SWI.
+    Values,
+    /// Those of LDR and STR, whose numbers after `#` have signs.
+    Offsets,
+    /// Any other.
+    Others,
+}
+
+const VALUE_WORDS: [&[u8]; 6] = [b"DCD", b"ORG", b"SWI", b"dcd", b"org", b"swi"];
+const OFFSET_WORDS: [&[u8]; 4] = [b"LDR", b"STR", b"ldr", b"str"];
+const DIRECTIVES: [&[u8]; 57] = [
+    b"ADRL", b"ALIGN", b"AOF", b"AOUT", b"AREA", b"ASSERT", b"BIN", b"CN", b"CP", b"DATA", b"DCB", b"DCFD",
+    b"DCFS", b"DCW", b"ELSE", b"END", b"ENDIF", b"ENTRY", b"EQU", b"EXPORT", b"FN", b"GBLA", b"GBLL",
+    b"GBLS", b"GET", b"GLOBAL", b"IF", b"IMPORT", b"INCBIN", b"INCLUDE", b"INFO", b"KEEP", b"LCLA", b"LCLL",
+    b"LCLS", b"LEAF", b"LIB", b"LNK", b"LTORG", b"MACRO", b"MEND", b"MEXIT", b"NOFP", b"NOP", b"OPT",
+    b"RLIST", b"RN", b"ROUT", b"SETA", b"SETL", b"SETS", b"SPACE", b"STRONG", b"SUBT", b"TTL", b"WEND",
+    b"WHILE",
+];
+
+/// Whether a word is one of those.
+pub(crate) fn is_one_of(words: &[&[u8]], word: &[u8]) -> bool
+    ensures { result ≡ is_one_of (map (λ w. w.now) words.now) word.now }
+{
+    for known in words {
+        if *known == word {
+            return true;
+        }
+    }
+    false
+}
+
+/// Whether a word is a directive of ObjAsm that is not translated.
+pub(crate) fn is_directive(word: &[u8]) -> bool
+    ensures { result ≡ is_directive word.now }
+{
+    is_one_of(&DIRECTIVES, word)
+}
+
+/// What the operands of a word are, by its first three letters.
+pub(crate) fn kind_of(word: &[u8]) -> Operands
+    ensures { result ≡ kind_of word.now }
+{
+    if word.len() < 3 {
+        return Operands::Others;
+    }
+    let head = &word[..3];
+    if is_one_of(&VALUE_WORDS, head) {
+        Operands::Values
+    } else if is_one_of(&OFFSET_WORDS, head) {
+        Operands::Offsets
+    } else {
+        Operands::Others
+    }
+}
+
+// Our name of a condition that ObjAsm has two names of.
+fn known_cond(cond: &[u8]) -> &[u8]
+    ensures { result.now ≡ known_cond cond.now }
+{
+    if cond == b"HS".as_slice() {
+        b"CS"
+    } else if cond == b"LO".as_slice() {
+        b"CC"
+    } else if cond == b"hs".as_slice() {
+        b"cs"
+    } else if cond == b"lo".as_slice() {
+        b"cc"
+    } else {
+        cond
+    }
+}
+
+// Where the condition of a word of this length stands.
+fn cond_place(len: usize) -> usize
+    ensures { result ≡ cond_place len }
+{
+    match len {
+        3 => 1,
+        4 => 2,
+        _ => 3,
+    }
+}
+
+/// Puts a word as our grammar has it.
+pub(crate) fn put_word_text(word: &[u8], out: &mut Vec<u8>) -> Result<(), AllocError>
+    ensures { OnOk result (out.new.items ≡ out.old.items ++ word_text word.now) }
+{
+    let place = cond_place(word.len());
+    if word.len() < place + 2 {
+        return out.extend_from_slice(word);
+    }
+    let (head, rest) = word.split_at(place);
+    let (cond, suffix) = rest.split_at(2);
+    out.extend_from_slice(head)?;
+    out.extend_from_slice(known_cond(cond))?;
+    out.extend_from_slice(suffix)
+}
