@@ -1,3 +1,4 @@
 mod PartLaws
 mod EvaluationLaws
 mod SymbolLaws
+mod PlainLaws

@@ -6,7 +6,9 @@ use Rattle.objasm.specs.Names.{Meanings, and_then, mapped}
 use Rattle.objasm.specs.Parts.{part_of}
 use Rattle.objasm.specs.Symbols.{no_more, reading_step, symbols_in}
 use Rattle.objasm.specs.declared.faults.LineFault.{LineFault}
+use Rattle.objasm.specs.declared.faults.LineFault.TheVariants.{BadExpression}
 use Rattle.objasm.specs.declared.symbols.Reading.{Reading}
+use Rattle.objasm.specs.declared.symbols.Reading.TheVariants.{Ready}
 use Rattle.objasm.specs.declared.symbols.Symbol.{Symbol}
 use Rattle.objasm.specs.declared.token.Token.{Token}
 
@@ -42,3 +44,10 @@ pub symbols_end : (m : Meanings) (r : Reading) (found : List Symbol) (ts : List 
     → mapped (λ ss. found ++ ss) (symbols_in m r (map part_of (drop i ts))) ≡ whole → whole ≡ mapped (λ ss. found ++ ss) (no_more r)
 unfolding symbols_in
 symbols_end m r found ts i whole le before = sym before ∙ ap (λ (rest : List Token). mapped (λ ss. found ++ ss) (symbols_in m r (map part_of rest))) (drop_all i ts le)
+
+pub all_found : (found : List Symbol) (r : Reading) → r ≡ Ready → mapped (λ ss. found ++ ss) (no_more r) ≡ Ok found
+all_found found r is = rw (is, append-nil found) refl
+
+pub not_all_found : (found : List Symbol) (r : Reading) → (r ≡ Ready → ⊥) → mapped (λ ss. found ++ ss) (no_more r) ≡ Err BadExpression
+not_all_found found Ready no = absurd (no refl)
+not_all_found found _ no = refl

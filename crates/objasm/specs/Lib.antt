@@ -7,3 +7,4 @@ pub mod Symbols
 pub mod Settings
 pub mod Words
 pub mod PlainLines
+pub mod Source

@@ -7,8 +7,10 @@ mod names;
 mod operators;
 mod plain_lines;
 mod settings;
+mod source;
 mod symbols;
 mod token;
 mod words;
 
 pub use faults::LineFault;
+pub use source::{DialectFault, PlainSource, plain_source};
