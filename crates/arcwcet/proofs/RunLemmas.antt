@@ -45,6 +45,7 @@ exit_of report_fault.NotVector = of_other (λ e. cc e) (λ e. cc e) refl
 exit_of report_fault.NotReached = of_other (λ e. cc e) (λ e. cc e) refl
 exit_of (report_fault.WordsMeet a) = of_other (λ e. cc e) (λ e. cc e) refl
 exit_of (report_fault.Given f) = of_other (λ e. cc e) (λ e. cc e) refl
+exit_of (report_fault.Dialect f) = of_other (λ e. cc e) (λ e. cc e) refl
 exit_of report_fault.NoSuchEdge = of_other (λ e. cc e) (λ e. cc e) refl
 exit_of (report_fault.NotFree a) = of_other (λ e. cc e) (λ e. cc e) refl
 exit_of (Statement f) = of_other (λ e. cc e) (λ e. cc e) refl
@@ -456,6 +457,7 @@ module _ {S I O : Type 0} (reads : Reading S) (writes : Writing S) (remaining : 
     by_form command.Debug asm debug plain = debug refl
     by_form command.Version asm debug plain = plain
     by_form command.List asm debug plain = plain
+    by_form command.Plain asm debug plain = plain
     by_form command.Draft asm debug plain = plain
     by_form command.DraftOn asm debug plain = plain
     by_form command.Run asm debug plain = plain

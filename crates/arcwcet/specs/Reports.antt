@@ -16,6 +16,7 @@ use Rattle.source_reports.specs.Assembly.{IsAsmReport, IsSourceRefused}
 use Rattle.source_reports.specs.DraftReport.{IsDraftOnRefused, IsDraftOnReport}
 use Rattle.source_reports.specs.DraftReport.{IsDraftRefused, IsDraftReport}
 use Rattle.source_reports.specs.ListReport.{IsListReport}
+use Rattle.source_reports.specs.PlainReport.{IsPlainRefused, IsPlainReport}
 use Rattle.machine_reports.specs.Debug.{IsDebugReport}
 use Rattle.machine_reports.specs.Machine.{End, Front, IsMachineReport, ShowsRecords, ShowsRegisters}
 use Rattle.machine_reports.specs.Machine.{ShowsSteps, lines_end, record_end}
@@ -170,6 +171,7 @@ module _ (asked : Asked) (i : Inputs) (typed : List ℕ) where
   report_by command.Version = version_report
   report_by command.Asm = unpriced (IsAsmReport i.source) (IsSourceRefused i.source)
   report_by command.List = unpriced (IsListReport i.source) (IsSourceRefused i.source)
+  report_by command.Plain = unpriced (IsPlainReport i.source) (IsPlainRefused i.source)
   report_by command.Draft = unpriced (IsDraftReport i.source asked.word) (IsDraftRefused i.source asked.word)
   report_by command.DraftOn =
       unpriced (IsDraftOnReport i.source i.second) (IsDraftOnRefused i.source i.second)

@@ -45,5 +45,5 @@ pub use response_reports::{AskedFiq, AskedResponse, respond_report};
 pub use responses::{
     irq_costs_its_entry, response_law, some_run_serves, unmasked_is_taken, visited_response_law,
 };
-pub use source_reports::{asm_report, draft_on_report, draft_report, list_report};
+pub use source_reports::{asm_report, draft_on_report, draft_report, list_report, plain_report};
 pub use text_explained::{Bursts, RowForm};

@@ -47,7 +47,7 @@ use machine_reports::{
 };
 use outputs::{Output, Page};
 use response_reports::{AskedFiq, AskedResponse, respond_report};
-use source_reports::{asm_report, draft_on_report, draft_report, list_report};
+use source_reports::{asm_report, draft_on_report, draft_report, list_report, plain_report};
 use std::alloc::Global;
 use text_explained::{Bursts, RowForm};
 
@@ -529,6 +529,7 @@ pub(crate) fn print<'b, O: Output>(
         Command::Version => alone(print_version(out)),
         Command::Asm => answered(alone(asm_report(alloc, source, out))),
         Command::List => answered(alone(list_report(alloc, source, out))),
+        Command::Plain => answered(alone(plain_report(alloc, source, out))),
         Command::Draft => {
             let entry = job.request.word.as_bytes();
             answered(alone(draft_report(alloc, source, entry, out)))

@@ -68,6 +68,7 @@ abbrev pub usages : List Usage
 usages =
     usage (codes "asm") command.Asm (source ∷ argument (codes "image") form.Word ∷ [])
     ∷ usage (codes "list") command.List (source ∷ [])
+    ∷ usage (codes "plain") command.Plain (source ∷ [])
     ∷ usage (codes "draft") command.Draft
     (source ∷ other (codes "entry") form.FileOrWord command.DraftOn ∷ [])
     ∷ usage (codes "run") command.Run

@@ -374,7 +374,7 @@ const RESPONSE_WAITED: ArgumentRow = ArgumentRow {
 };
 
 /// The commands, in the order of the help.
-pub(crate) const COMMANDS: [CommandRow; 14] = [
+pub(crate) const COMMANDS: [CommandRow; 15] = [
     CommandRow {
         name: "asm",
         command: Command::Asm,
@@ -385,6 +385,12 @@ pub(crate) const COMMANDS: [CommandRow; 14] = [
         name: "list",
         command: Command::List,
         summary: "Print addresses, words and lines of a source, or an image's words",
+        arguments: &[SOURCE],
+    },
+    CommandRow {
+        name: "plain",
+        command: Command::Plain,
+        summary: "Print a source in ObjAsm's dialect as one in arcwcet's grammar",
         arguments: &[SOURCE],
     },
     CommandRow {

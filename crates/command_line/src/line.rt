@@ -9,6 +9,8 @@ pub enum Command {
     Asm,
     /// The addresses, words and lines of a source, or the words of an image.
     List,
+    /// A source in ObjAsm's dialect as one in our grammar.
+    Plain,
     /// What has to be stated of the handler that begins where [`Request::word`] says: at a label or an
     /// address.
     Draft,

@@ -23,6 +23,9 @@ use Rattle.numbered_walks.specs.declared.fault.WalkFault.{WalkFault}
 use Rattle.numbered_walks.specs.declared.fault.WalkFault.TheVariants as walk_fault
 use Rattle.certificate.specs.declared.fault.CertFault.{CertFault}
 use Rattle.certificate.specs.declared.fault.CertFault.TheVariants as cert_fault
+use Rattle.objasm.specs.Faults as dialect_line
+use Rattle.objasm.specs.declared.source.DialectFault.{DialectFault}
+use Rattle.objasm.specs.declared.source.DialectFault.TheVariants as dialect_fault
 use Rattle.handlers.specs.declared.fault.ReportFault.{ReportFault}
 use Rattle.handlers.specs.declared.fault.ReportFault.TheVariants as report_fault
 
@@ -106,6 +109,11 @@ given_fault_name given_fault.WrongKind = codes "WrongKind"
 given_fault_name given_fault.OutOfRange = codes "OutOfRange"
 given_fault_name given_fault.Twice = codes "Twice"
 
+-- of a source in ObjAsm's dialect: that of its line's fault
+abbrev pub dialect_fault_name : DialectFault → List ℕ
+dialect_fault_name dialect_fault.Memory = codes "Memory"
+dialect_fault_name (dialect_fault.Line fault line) = dialect_line.name fault
+
 abbrev pub fault_name : ReportFault → List ℕ
 fault_name report_fault.Memory = codes "Memory"
 fault_name (report_fault.Source fault) = source_fault_name fault
@@ -127,3 +135,4 @@ fault_name report_fault.NotVector = codes "NotVector"
 fault_name report_fault.NotReached = codes "NotReached"
 fault_name (report_fault.WordsMeet address) = codes "WordsMeet"
 fault_name (report_fault.Given fault) = given_fault_name fault
+fault_name (report_fault.Dialect fault) = dialect_fault_name fault

@@ -9,6 +9,8 @@ use Rattle.control_flow.specs.declared.faults.BuildFault.{BuildFault}
 use Rattle.control_flow.specs.declared.faults.BuildFault.TheVariants as build_fault
 use Rattle.certificate.specs.declared.fault.CertFault.{CertFault}
 use Rattle.certificate.specs.declared.fault.CertFault.TheVariants as cert_fault
+use Rattle.objasm.specs.declared.source.DialectFault.{DialectFault}
+use Rattle.objasm.specs.declared.source.DialectFault.TheVariants as dialect_fault
 use Rattle.handlers.specs.FaultNames.{fault_name}
 use Rattle.handlers.specs.declared.fault.ReportFault.{ReportFault}
 use Rattle.handlers.specs.declared.fault.ReportFault.TheVariants as report_fault
@@ -33,12 +35,17 @@ abbrev pub cert_fault_place : CertFault → FaultPlace
 cert_fault_place (cert_fault.BadLine line) = TextLine line
 cert_fault_place fault = Nowhere
 
+abbrev pub dialect_fault_place : DialectFault → FaultPlace
+dialect_fault_place dialect_fault.Memory = Nowhere
+dialect_fault_place (dialect_fault.Line fault line) = TextLine line
+
 abbrev pub fault_place : ReportFault → FaultPlace
 fault_place (report_fault.Source fault) = source_fault_place fault
 fault_place (report_fault.Graph fault) = graph_fault_place fault
 fault_place (report_fault.Cert fault) = cert_fault_place fault
 fault_place (report_fault.NotFree address) = Address address
 fault_place (report_fault.WordsMeet address) = Address address
+fault_place (report_fault.Dialect fault) = dialect_fault_place fault
 fault_place fault = Nowhere
 
 -- ## The text

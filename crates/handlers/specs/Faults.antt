@@ -13,6 +13,8 @@ use Rattle.given_facts.specs.declared.faults.GivenFault.{GivenFault}
 use Rattle.given_facts.specs.declared.faults.GivenFault.TheVariants as given_fault
 use Rattle.sources.specs.declared.fault.SourceFault.{SourceFault}
 use Rattle.sources.specs.declared.fault.SourceFault.TheVariants as source_fault
+use Rattle.objasm.specs.declared.source.DialectFault.{DialectFault}
+use Rattle.objasm.specs.declared.source.DialectFault.TheVariants as dialect_fault
 use Rattle.statement.specs.declared.faults.StatementFault.{StatementFault}
 use Rattle.statement.specs.declared.faults.StatementFault.TheVariants as statement_fault
 use Rattle.loop_bounds.specs.declared.fault.NestFault.{NestFault}
@@ -25,7 +27,7 @@ use Rattle.handlers.specs.declared.fault.ReportFault.{ReportFault}
 use Rattle.handlers.specs.declared.fault.ReportFault.TheVariants.{Memory, Source, Image}
 use Rattle.handlers.specs.declared.fault.ReportFault.TheVariants.{Statement, Graph}
 use Rattle.handlers.specs.declared.fault.ReportFault.TheVariants.{Loops, Walk, MachineFile, Load, Cert}
-use Rattle.handlers.specs.declared.fault.ReportFault.TheVariants.{Given, Profile}
+use Rattle.handlers.specs.declared.fault.ReportFault.TheVariants.{Dialect, Given, Profile}
 
 abbrev pub of_source : SourceFault → ReportFault
 of_source source_fault.Memory = Memory
@@ -71,3 +73,7 @@ of_profile fault = Profile fault
 abbrev pub of_given : GivenFault → ReportFault
 of_given given_fault.Memory = Memory
 of_given fault = Given fault
+
+abbrev pub of_dialect : DialectFault → ReportFault
+of_dialect dialect_fault.Memory = Memory
+of_dialect fault = Dialect fault

@@ -7,6 +7,7 @@ use loader::LoadFault;
 use longest_walk::WalkFault;
 use loop_bounds::NestFault;
 use machine_file::{MachineFileFault, ProfileFileFault};
+use objasm::DialectFault;
 use statement::StatementFault;
 use thiserror::Error;
 
@@ -76,4 +77,7 @@ pub enum ReportFault {
     /// The file of facts cannot be read.
     #[error("{0}")]
     Given(GivenFault),
+    /// The source in ObjAsm's dialect cannot be translated.
+    #[error("{0}")]
+    Dialect(DialectFault),
 }

@@ -1,5 +1,6 @@
 ghost use Rattle.std.specs.Prelude.{◌≡◌};
-ghost use Rattle.handlers.specs.FaultNames.{cert_fault_name, fault_name, given_fault_name};
+ghost use Rattle.handlers.specs.FaultNames.{cert_fault_name, dialect_fault_name, fault_name};
+ghost use Rattle.handlers.specs.FaultNames.{given_fault_name};
 ghost use Rattle.handlers.specs.FaultNames.{graph_fault_name};
 ghost use Rattle.handlers.specs.FaultNames.{image_fault_name, load_fault_name};
 ghost use Rattle.handlers.specs.FaultNames.{loops_fault_name, machine_file_fault_name};
@@ -16,6 +17,7 @@ use loader::LoadFault;
 use longest_walk::WalkFault;
 use loop_bounds::NestFault;
 use machine_file::{MachineFileFault, ProfileFileFault};
+use objasm::DialectFault;
 use statement::StatementFault;
 
 fn source_fault_name(fault: AsmFault) -> &'static [u8]
@@ -152,6 +154,15 @@ fn given_fault_name(fault: GivenFault) -> &'static [u8]
     }
 }
 
+fn dialect_fault_name(fault: DialectFault) -> &'static [u8]
+    ensures { result.now ≡ dialect_fault_name fault }
+{
+    match fault {
+        DialectFault::Memory => b"Memory",
+        DialectFault::Line(fault, _) => fault.name(),
+    }
+}
+
 /// The name of a fault, as a refusal's line has it.
 pub fn fault_name(fault: ReportFault) -> &'static [u8]
     ensures { result.now ≡ fault_name fault }
@@ -177,5 +188,6 @@ pub fn fault_name(fault: ReportFault) -> &'static [u8]
         ReportFault::NotReached => b"NotReached",
         ReportFault::WordsMeet(_) => b"WordsMeet",
         ReportFault::Given(fault) => given_fault_name(fault),
+        ReportFault::Dialect(fault) => dialect_fault_name(fault),
     }
 }

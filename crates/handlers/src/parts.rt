@@ -2,7 +2,8 @@
 
 ghost use Rattle.std.specs.Prelude.{◌≡◌};
 ghost use Rattle.handlers.specs.declared.fault.ReportFault.TheVariants.{Memory};
-ghost use Rattle.handlers.specs.Faults.{of_cert, of_given, of_graph, of_load, of_loops, of_machine_file};
+ghost use Rattle.handlers.specs.Faults.{of_cert, of_dialect, of_given, of_graph, of_load, of_loops};
+ghost use Rattle.handlers.specs.Faults.{of_machine_file};
 ghost use Rattle.handlers.specs.Faults.{of_profile, of_source, of_statement, of_text, of_walk};
 
 use crate::fault::ReportFault;
@@ -17,6 +18,7 @@ use loader::LoadFault;
 use longest_walk::WalkFault;
 use loop_bounds::NestFault;
 use machine_file::{MachineFileFault, ProfileFileFault};
+use objasm::DialectFault;
 use sources::SourceFault;
 use statement::StatementFault;
 use std::alloc::AllocError;
@@ -155,6 +157,17 @@ impl From<GivenFault> for ReportFault {
         match lower {
             GivenFault::Memory => ReportFault::Memory,
             _ => ReportFault::Given(lower),
+        }
+    }
+}
+
+impl From<DialectFault> for ReportFault {
+    ghost from_gives = { λ lower fault. fault ≡ of_dialect lower };
+
+    fn from(lower: DialectFault) -> ReportFault {
+        match lower {
+            DialectFault::Memory => ReportFault::Memory,
+            _ => ReportFault::Dialect(lower),
         }
     }
 }

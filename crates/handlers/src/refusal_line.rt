@@ -2,7 +2,8 @@
 
 ghost use Rattle.std.specs.Prelude.{◌≡◌, ◌++◌};
 ghost use Rattle.outputs.specs.OnTheWay.{Adds};
-ghost use Rattle.handlers.specs.FaultText.{TakesOrFails, cert_fault_place, fault_place};
+ghost use Rattle.handlers.specs.FaultText.{TakesOrFails, cert_fault_place, dialect_fault_place};
+ghost use Rattle.handlers.specs.FaultText.{fault_place};
 ghost use Rattle.handlers.specs.FaultText.{graph_fault_place, place_text, refusal_line};
 ghost use Rattle.handlers.specs.FaultText.{source_fault_place};
 
@@ -12,6 +13,7 @@ use assembler::AsmFault;
 use certificate::CertFault;
 use control_flow::BuildFault;
 use itoa::Buffer;
+use objasm::DialectFault;
 use outputs::{Output, Page};
 
 /// Where a fault is.
@@ -56,6 +58,15 @@ fn cert_fault_place(fault: CertFault) -> FaultPlace
     }
 }
 
+fn dialect_fault_place(fault: DialectFault) -> FaultPlace
+    ensures { result ≡ dialect_fault_place fault }
+{
+    match fault {
+        DialectFault::Memory => FaultPlace::Nowhere,
+        DialectFault::Line(_, line) => FaultPlace::TextLine(line),
+    }
+}
+
 /// Where a fault is, as a refusal's line says it.
 pub fn fault_place(fault: ReportFault) -> FaultPlace
     ensures { result ≡ fault_place fault }
@@ -66,6 +77,7 @@ pub fn fault_place(fault: ReportFault) -> FaultPlace
         ReportFault::Cert(fault) => cert_fault_place(fault),
         ReportFault::NotFree(address) => FaultPlace::Address(address),
         ReportFault::WordsMeet(address) => FaultPlace::Address(address),
+        ReportFault::Dialect(fault) => dialect_fault_place(fault),
         _ => FaultPlace::Nowhere,
     }
 }

@@ -1,6 +1,7 @@
 pub mod Parts
 pub mod Operators
 pub mod Expressions
+pub mod Faults
 pub mod Evaluation
 pub mod Names
 pub mod Symbols

@@ -1,4 +1,5 @@
 ghost use Rattle.std.specs.Prelude.{◌≡◌};
+ghost use Rattle.objasm.specs.Faults.{name};
 ghost use Rattle.objasm.specs.declared.faults.LineFault.TheVariants.{Memory};
 
 use std::alloc::{AllocError, AllocFailed};
@@ -49,5 +50,24 @@ impl<T: Drop> From<AllocFailed<T>> for LineFault {
 
     fn from(_refused: AllocFailed<T>) -> LineFault {
         LineFault::Memory
+    }
+}
+
+impl LineFault {
+    /// The fault's name, as a refusal says it.
+    pub fn name(self) -> &'static [u8]
+        ensures { result.now ≡ name self }
+    {
+        match self {
+            LineFault::Memory => b"Memory",
+            LineFault::UnknownDirective => b"UnknownDirective",
+            LineFault::BadName => b"BadName",
+            LineFault::NameTwice => b"NameTwice",
+            LineFault::NameMissing => b"NameMissing",
+            LineFault::BadExpression => b"BadExpression",
+            LineFault::BadNumber => b"BadNumber",
+            LineFault::DivisionByZero => b"DivisionByZero",
+            LineFault::BadRegister => b"BadRegister",
+        }
     }
 }

@@ -1,3 +1,4 @@
 pub mod Assembly
 pub mod ListReport
+pub mod PlainReport
 pub mod DraftReport

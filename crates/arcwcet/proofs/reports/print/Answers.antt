@@ -6,6 +6,7 @@ use Rattle.handlers.specs.Report.{IsAccepted, IsRefused, IsReport}
 use Rattle.source_reports.specs.Assembly.{IsAsmReport, IsSource, IsSourceRefused}
 use Rattle.source_reports.specs.DraftReport.{IsDraftOnRefused, IsDraftOnReport, IsDraftRefused, IsDraftReport, IsDraftable, IsDraftableOn}
 use Rattle.source_reports.specs.ListReport.{IsListReport}
+use Rattle.source_reports.specs.PlainReport.{IsPlainRefused, IsPlainReport, IsTranslated}
 use Rattle.machine_reports.specs.Debug.{IsDebugReport}
 use Rattle.machine_reports.specs.Machine.{IsMachineReport, ShowsRegisters, lines_end}
 use Rattle.machine_reports.specs.RunTo.{IsRunToRefused, IsRunToReport, IsRunnableTo}
@@ -43,6 +44,14 @@ returns-in-List g c =
     rw (c.in-List.is)
     (answered_unpriced_report g.O.Output.taken g.O.Output.failures c.args.out.now c.list_report.new.out (IsListReport i.source) (IsSource i.source) (IsSourceRefused i.source)
     c.list_report.result c.list_report.ensures (fault_only c.answered-in-List.result) (c.answered-in-List.ensures ∙ ap answered c.alone-in-List.ensures))
+
+pub returns-in-Plain : goal.returns-in-Plain
+unfolding report_by
+returns-in-Plain g c =
+    let i = inputs_lent c.args.job.inputs in
+    rw (c.in-Plain.is)
+    (answered_unpriced_report g.O.Output.taken g.O.Output.failures c.args.out.now c.plain_report.new.out (IsPlainReport i.source) (IsTranslated i.source) (IsPlainRefused i.source)
+    c.plain_report.result c.plain_report.ensures (fault_only c.answered-in-Plain.result) (c.answered-in-Plain.ensures ∙ ap answered c.alone-in-Plain.ensures))
 
 pub returns-in-Draft : goal.returns-in-Draft
 unfolding report_by

@@ -1,0 +1,17 @@
+-- The names of faults.
+use Rattle.std.specs.Prelude.{ℕ, List, codes}
+use Rattle.objasm.specs.declared.faults.LineFault.{LineFault}
+use Rattle.objasm.specs.declared.faults.LineFault.TheVariants.{Memory, UnknownDirective, BadName, NameTwice}
+use Rattle.objasm.specs.declared.faults.LineFault.TheVariants.{NameMissing, BadExpression, BadNumber}
+use Rattle.objasm.specs.declared.faults.LineFault.TheVariants.{DivisionByZero, BadRegister}
+
+abbrev pub name : LineFault → List ℕ
+name Memory = codes "Memory"
+name UnknownDirective = codes "UnknownDirective"
+name BadName = codes "BadName"
+name NameTwice = codes "NameTwice"
+name NameMissing = codes "NameMissing"
+name BadExpression = codes "BadExpression"
+name BadNumber = codes "BadNumber"
+name DivisionByZero = codes "DivisionByZero"
+name BadRegister = codes "BadRegister"
