@@ -14,7 +14,7 @@ use Rattle.objasm.specs.declared.evaluation.Place.TheVariants.{Expects, Has}
 use Rattle.objasm.specs.declared.evaluation.Waiting.{Waiting}
 use Rattle.objasm.specs.declared.evaluation.Waiting.TheVariants as waits
 use Rattle.objasm.specs.declared.operators.Binary.{Binary}
-use Rattle.objasm.specs.declared.operators.Binary.TheVariants.{Plus, Minus}
+use Rattle.objasm.specs.declared.operators.Binary.TheVariants.{Times, Over, Mod, Shl, Shr, Rol, Ror, Plus, Minus, And, Or, Eor}
 use Rattle.objasm.specs.declared.operators.Unary.{Unary}
 use Rattle.objasm.specs.declared.operators.Unary.TheVariants.{Keep, Negate, Invert}
 use Rattle.objasm.specs.declared.symbols.Symbol.{Symbol}
@@ -190,3 +190,99 @@ stopped_room b [] s = level_below b
 stopped_room b (Before u ∷ hs) s = absurd cc
 stopped_room b (Opened ∷ hs) s = level_below b
 stopped_room b (Left e c ∷ hs) s = s
+
+at_end : (ws : List Waiting) (v : Option ℕ) → ended (reduced 3 ws v) ≡ run ws (Has v) []
+unfolding run
+at_end ws v = refl
+
+-- what does not follow
+
+no_end : (ws : List Waiting) (v : Option ℕ) → run ws Expects [] ≡ Some v → ⊥
+unfolding run
+no_end ws v is = absurd cc
+
+no_operator : (ws : List Waiting) (b : Binary) (ss : List Symbol) (v : Option ℕ) → (b ≡ Plus → ⊥) → (b ≡ Minus → ⊥) → run ws Expects (Operator b ∷ ss) ≡ Some v → ⊥
+unfolding run
+no_operator ws Plus ss v plus minus is = plus refl
+no_operator ws Minus ss v plus minus is = minus refl
+no_operator ws _ ss v plus minus is = absurd cc
+
+no_close : (ws : List Waiting) (ss : List Symbol) (v : Option ℕ) → run ws Expects (Close ∷ ss) ≡ Some v → ⊥
+unfolding run
+no_close ws ss v is = absurd cc
+
+no_number : (ws : List Waiting) (x : Option ℕ) (n : ℕ) (ss : List Symbol) (v : Option ℕ) → run ws (Has x) (Number n ∷ ss) ≡ Some v → ⊥
+unfolding run
+no_number ws x n ss v is = absurd cc
+
+no_open : (ws : List Waiting) (x : Option ℕ) (ss : List Symbol) (v : Option ℕ) → run ws (Has x) (Open ∷ ss) ≡ Some v → ⊥
+unfolding run
+no_open ws x ss v is = absurd cc
+
+no_not : (ws : List Waiting) (x : Option ℕ) (ss : List Symbol) (v : Option ℕ) → run ws (Has x) (Not ∷ ss) ≡ Some v → ⊥
+unfolding run
+no_not ws x ss v is = absurd cc
+
+sound : (ss : List Symbol) (hs : List Held) (p : Spot) (v : Option ℕ) → IsHeld hs → IsSpot p → run (all_waiting hs) (place_of p) ss ≡ Some v
+    → Found (held_symbols hs ++ (spot_symbols p ++ ss)) v
+sound [] hs Free v h q is = absurd (no_end (all_waiting hs) v is)
+sound [] hs (Full e) v h q is = ends hs e (sunk_of 3 hs e h q) v (at_end (all_waiting hs) (value e) ∙ is)
+sound (Number n ∷ ss) hs Free v h q is = sound ss hs (Full (Lone n)) v h (tt, refl) (sym (step_number (all_waiting hs) n ss) ∙ is)
+sound (Open ∷ ss) hs Free v h q is =
+    as_symbols _ _ v (append_assoc (held_symbols hs) (Open ∷ []) ss) (sound ss (Opened ∷ hs) Free v h tt (sym (group_opens (all_waiting hs) ss) ∙ is))
+sound (Not ∷ ss) hs Free v h q is =
+    as_symbols _ _ v (append_assoc (held_symbols hs) (Not ∷ []) ss) (sound ss (Before Invert ∷ hs) Free v h tt (sym (step_unary (all_waiting hs) Invert ss) ∙ is))
+sound (Operator Plus ∷ ss) hs Free v h q is =
+    as_symbols _ _ v (append_assoc (held_symbols hs) (Operator Plus ∷ []) ss) (sound ss (Before Keep ∷ hs) Free v h tt (sym (step_unary (all_waiting hs) Keep ss) ∙ is))
+sound (Operator Minus ∷ ss) hs Free v h q is =
+    as_symbols _ _ v (append_assoc (held_symbols hs) (Operator Minus ∷ []) ss) (sound ss (Before Negate ∷ hs) Free v h tt (sym (step_unary (all_waiting hs) Negate ss) ∙ is))
+sound (Operator Times ∷ ss) hs Free v h q is = absurd (no_operator (all_waiting hs) Times ss v (λ k. cc) (λ k. cc) is)
+sound (Operator Over ∷ ss) hs Free v h q is = absurd (no_operator (all_waiting hs) Over ss v (λ k. cc) (λ k. cc) is)
+sound (Operator Mod ∷ ss) hs Free v h q is = absurd (no_operator (all_waiting hs) Mod ss v (λ k. cc) (λ k. cc) is)
+sound (Operator Shl ∷ ss) hs Free v h q is = absurd (no_operator (all_waiting hs) Shl ss v (λ k. cc) (λ k. cc) is)
+sound (Operator Shr ∷ ss) hs Free v h q is = absurd (no_operator (all_waiting hs) Shr ss v (λ k. cc) (λ k. cc) is)
+sound (Operator Rol ∷ ss) hs Free v h q is = absurd (no_operator (all_waiting hs) Rol ss v (λ k. cc) (λ k. cc) is)
+sound (Operator Ror ∷ ss) hs Free v h q is = absurd (no_operator (all_waiting hs) Ror ss v (λ k. cc) (λ k. cc) is)
+sound (Operator And ∷ ss) hs Free v h q is = absurd (no_operator (all_waiting hs) And ss v (λ k. cc) (λ k. cc) is)
+sound (Operator Or ∷ ss) hs Free v h q is = absurd (no_operator (all_waiting hs) Or ss v (λ k. cc) (λ k. cc) is)
+sound (Operator Eor ∷ ss) hs Free v h q is = absurd (no_operator (all_waiting hs) Eor ss v (λ k. cc) (λ k. cc) is)
+sound (Close ∷ ss) hs Free v h q is = absurd (no_close (all_waiting hs) ss v is)
+sound (Number n ∷ ss) hs (Full e) v h q is = absurd (no_number (all_waiting hs) (value e) n ss v is)
+sound (Open ∷ ss) hs (Full e) v h q is = absurd (no_open (all_waiting hs) (value e) ss v is)
+sound (Not ∷ ss) hs (Full e) v h q is = absurd (no_not (all_waiting hs) (value e) ss v is)
+sound (Operator b ∷ ss) hs (Full e) v h q is =
+    let s = sunk_of (level b) hs e h q in
+    as_symbols _ _ v (
+      append_assoc (held_symbols s.rest) (symbols_of s.inner ++ Operator b ∷ []) ss
+      ∙ ap (λ (ts : List Symbol). held_symbols s.rest ++ ts) (append_assoc (symbols_of s.inner) (Operator b ∷ []) ss)
+      ∙ sym (append_assoc (held_symbols s.rest) (symbols_of s.inner) (Operator b ∷ ss))
+      ∙ ap (λ (ts : List Symbol). ts ++ Operator b ∷ ss) (sym s.symbols)
+      ∙ append_assoc (held_symbols hs) (symbols_of e) (Operator b ∷ ss)
+    ) (
+      sound ss (Left s.inner b ∷ s.rest) Free v (s.grouped, s.low, stopped_room b s.rest s.stopped, s.held) tt
+      (sym (step_operator (all_waiting hs) (value e) b ss (all_waiting s.rest) (value s.inner) s.same) ∙ is)
+    )
+sound (Close ∷ ss) hs (Full e) v h q is =
+    let s = sunk_of 3 hs e h q in
+    closes s.rest (λ rest held is. sound ss rest (Full (Group s.inner)) v held (s.grouped, refl) is) s.symbols s.held (sym (step_close (all_waiting hs) (value e) ss (all_waiting s.rest) (value s.inner) s.same) ∙ is)
+  where
+    closes : (rest : List Held)
+        → ((under : List Held) → IsHeld under → run (all_waiting under) (Has (value (sunk_of 3 hs e h q).inner)) ss ≡ Some v → Found (held_symbols under ++ ((Open ∷ (symbols_of (sunk_of 3 hs e h q).inner ++ Close ∷ [])) ++ ss)) v)
+        → held_symbols hs ++ symbols_of e ≡ held_symbols rest ++ symbols_of (sunk_of 3 hs e h q).inner → IsHeld rest
+        → option_and_then (λ next. run next.0 next.1 ss) (closed (all_waiting rest, value (sunk_of 3 hs e h q).inner)) ≡ Some v
+        → Found (held_symbols hs ++ (symbols_of e ++ Close ∷ ss)) v
+    closes [] next symbols held is = absurd cc
+    closes (Before u ∷ rest) next symbols held is = absurd cc
+    closes (Left x b ∷ rest) next symbols held is = absurd cc
+    closes (Opened ∷ rest) next symbols held is =
+        let inner = (sunk_of 3 hs e h q).inner in
+        as_symbols _ _ v (
+          ap (λ (ts : List Symbol). held_symbols rest ++ Open ∷ ts) (append_assoc (symbols_of inner) (Close ∷ []) ss)
+          ∙ sym (append_assoc (held_symbols rest) (Open ∷ []) (symbols_of inner ++ Close ∷ ss))
+          ∙ sym (append_assoc (held_symbols rest ++ Open ∷ []) (symbols_of inner) (Close ∷ ss))
+          ∙ ap (λ (ts : List Symbol). ts ++ Close ∷ ss) (sym symbols)
+          ∙ append_assoc (held_symbols hs) (symbols_of e) (Close ∷ ss)
+        ) (next rest held is)
+
+pub read_so : (ss : List Symbol) (v : Option ℕ) → evaluated ss ≡ Some v → Found ss v
+read_so ss v is = sound ss [] Free v tt tt is
