@@ -2,3 +2,6 @@ mod PartLaws
 mod EvaluationLaws
 mod SymbolLaws
 mod PlainLaws
+mod SourceLaws
+mod ExpressionLaws
+mod ReadingLaws

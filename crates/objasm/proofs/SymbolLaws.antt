@@ -49,5 +49,5 @@ pub all_found : (found : List Symbol) (r : Reading) → r ≡ Ready → mapped (
 all_found found r is = rw (is, append-nil found) refl
 
 pub not_all_found : (found : List Symbol) (r : Reading) → (r ≡ Ready → ⊥) → mapped (λ ss. found ++ ss) (no_more r) ≡ Err BadExpression
-not_all_found found Ready no = absurd (no refl)
-not_all_found found _ no = refl
+not_all_found found Ready other = absurd (other refl)
+not_all_found found _ other = refl

@@ -9,3 +9,4 @@ pub mod Settings
 pub mod Words
 pub mod PlainLines
 pub mod Source
+pub mod Laws

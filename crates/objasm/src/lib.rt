@@ -3,14 +3,18 @@
 
 mod evaluation;
 mod faults;
+mod law;
 mod names;
 mod operators;
 mod plain_lines;
 mod settings;
 mod source;
 mod symbols;
+#[cfg(test)]
+mod tests;
 mod token;
 mod words;
 
 pub use faults::LineFault;
+pub use law::expressions_are_evaluated;
 pub use source::{DialectFault, PlainSource, plain_source};

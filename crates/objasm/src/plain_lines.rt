@@ -1,6 +1,6 @@
 //! What stands in our grammar for a line of the dialect.
 
-ghost use Rattle.std.specs.Prelude.{◌≡◌, ◌++◌, OnOk, IfErr, Ok, decimal, map};
+ghost use Rattle.std.specs.Prelude.{◌≡◌, ◌++◌, ◌≤◌, OnOk, IfErr, Ok, decimal, drop, length, map};
 ghost use Rattle.objasm.specs.Names.{Told, meanings_of};
 ghost use Rattle.objasm.specs.Parts.{part_of};
 ghost use Rattle.objasm.specs.PlainLines.{is_label, is_label_field, is_over, offset_text, part_text, put_body};
@@ -209,6 +209,13 @@ fn put_stop(
     }
 }
 
+fn from<'a, 'b>(tokens: &'b [Token<'a>], index: usize) -> &'b [Token<'a>]
+    requires { index ≤ length tokens.now }
+    ensures { result.now ≡ drop index tokens.now }
+{
+    &tokens[index..]
+}
+
 // Each stop, and what follows it.
 fn put_stops(
     alloc: Global,
@@ -224,7 +231,9 @@ fn put_stops(
         (put_stops (meanings_of names.now) kind (map part_of tokens.now) out.old.items)) }
 {
     for index in 0..tokens.len() {
-        put_stop(alloc, names, kind, &tokens[index..], out)?;
+        if let Err(fault) = put_stop(alloc, names, kind, from(tokens, index), out) {
+            return Err(fault);
+        }
     }
     Ok(())
 }
