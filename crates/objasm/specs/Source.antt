@@ -1,6 +1,8 @@
 -- A whole source: the names that its lines set, and what stands for each of its lines.
-use Rattle.std.specs.Prelude.{◌≡◌, ◌==◌, ◌+◌, not, ℕ, List, [], ◌∷◌, ◌++◌, length, take, drop, Result, Ok, Err}
+use Rattle.std.specs.Prelude.{◌≡◌, ◌==◌, ◌+◌, not, ℕ, List, [], ◌∷◌, ◌++◌, codes, length, take, Result, Ok, Err}
+use Rattle.std.specs.Prelude.{if◌then◌else◌}
 use Rattle.std.specs.List.{prefix_len}
+use Rattle.std.specs.Str.{bytes_eq}
 use Rattle.asm_text.specs.Source.{lines_of}
 use Rattle.objasm.specs.Names.{Meanings, and_then, mapped, no_meanings}
 use Rattle.objasm.specs.Parts.{parts}
@@ -21,15 +23,17 @@ body_len text = prefix_len (λ b. not (b == 59)) text
 abbrev pub body : List ℕ → List ℕ
 body text = take (body_len text) text
 
-abbrev pub comment : List ℕ → List ℕ
-comment text = drop (body_len text) text
-
 abbrev pub line_settled : Meanings → List ℕ → Result Meanings LineFault
 line_settled m text = settled m (parts (body text))
 
--- the text so far, and after it what stands for a line, its comment and an LF
+-- the line itself, where that is what stands for it, else that, and the line as a comment behind it
+abbrev pub shown_line : (plain text : List ℕ) → List ℕ
+shown_line plain text = if bytes_eq plain (body text) then text else plain ++ (codes " ; " ++ text)
+
+-- the text so far, and after it what is shown of a line, and an LF
 abbrev pub put_line : Meanings → List ℕ → List ℕ → Result (List ℕ) LineFault
-put_line m text done = mapped (λ t. (t ++ comment text) ++ 10 ∷ []) (put_body m (parts (body text)) done)
+put_line m text done =
+    mapped (λ plain. (done ++ shown_line plain text) ++ 10 ∷ []) (put_body m (parts (body text)) [])
 
 -- ## All lines
 

@@ -1,8 +1,8 @@
-ghost use Rattle.std.specs.Prelude.{◌≡◌, ◌≤◌, IfOk, IfErr, OnOk, Ok, length};
+ghost use Rattle.std.specs.Prelude.{◌≡◌, ◌≤◌, ◌++◌, IfOk, IfErr, OnOk, Ok, length};
 ghost use Rattle.asm_text.specs.Source.{lines_of};
 ghost use Rattle.objasm.specs.Names.{Told, meanings_of, no_meanings};
 ghost use Rattle.objasm.specs.Source.{FaultedAt, body_len, fault_at, line_settled, no_lines, plain_of, put_line};
-ghost use Rattle.objasm.specs.Source.{put_lines, put_next, settings, translated};
+ghost use Rattle.objasm.specs.Source.{put_lines, put_next, settings, shown_line, translated};
 ghost use Rattle.objasm.specs.declared.source.DialectFault.TheVariants.{Memory};
 
 use crate::faults::LineFault;
@@ -17,7 +17,8 @@ use thiserror::Error;
 /// A text of the dialect in our grammar.
 #[derive(Drop)]
 pub struct PlainSource {
-    /// Its lines, each ended by LF.
+    /// Its lines, each ended by LF: what stands for a line of the author's, and that line as a comment behind
+    /// it where it is not the same.
     pub text: Vec<u8>,
     /// The number, from 1, of the author's line that each line comes from.
     pub origins: Vec<usize>,
@@ -85,16 +86,29 @@ fn names_of(alloc: Global, source: &[u8]) -> Result<Names, DialectFault>
     Ok(names)
 }
 
-// Puts what stands for a line, its comment and an LF.
+// Puts the line itself, where that is what stands for it, else that, and the line as a comment behind it.
+fn put_shown(out: &mut Vec<u8>, plain: &[u8], line: &[u8]) -> Result<(), AllocError>
+    ensures { OnOk result (out.new.items ≡ out.old.items ++ shown_line plain.now line.now) }
+{
+    let body = &line[..body_len(line)];
+    if plain == body {
+        return out.extend_from_slice(line);
+    }
+    out.extend_from_slice(plain)?;
+    out.extend_from_slice(b" ; ")?;
+    out.extend_from_slice(line)
+}
+
+// Puts what is shown of a line, and an LF.
 fn put_line(alloc: Global, names: &Names, line: &[u8], out: &mut Vec<u8>) -> Result<(), LineFault>
     ensures ok { OnOk result (put_line (meanings_of names.now) line.now out.old.items ≡ Ok out.new.items) }
     ensures fault { IfErr result
         (λ fault. Told fault (put_line (meanings_of names.now) line.now out.old.items)) }
 {
-    let (body, comment) = line.split_at(body_len(line));
-    let parts = tokens(alloc, body)?;
-    put_body(alloc, names, &parts, out)?;
-    out.extend_from_slice(comment)?;
+    let parts = tokens(alloc, &line[..body_len(line)])?;
+    let mut plain = Vec::new(alloc);
+    put_body(alloc, names, &parts, &mut plain)?;
+    put_shown(out, &plain, line)?;
     out.push(b'\n')?;
     Ok(())
 }
