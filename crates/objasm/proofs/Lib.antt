@@ -5,3 +5,5 @@ mod PlainLaws
 mod SourceLaws
 mod ExpressionLaws
 mod ReadingLaws
+mod ExchangeLaws
+mod NumberLaws

@@ -4,9 +4,11 @@ pub mod Expressions
 pub mod Faults
 pub mod Evaluation
 pub mod Names
+pub mod Numerals
 pub mod Symbols
 pub mod Settings
 pub mod Words
+pub mod Exchanges
 pub mod PlainLines
 pub mod Source
 pub mod Laws

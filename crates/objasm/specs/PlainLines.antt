@@ -2,17 +2,19 @@
 -- after it.
 use Rattle.std.specs.Prelude.{◌==◌, ◌&&◌, ◌-◌, ◌^◌, not, nat_lt, ℕ, Bool, true, false, List, [], ◌∷◌, ◌++◌, decimal}
 use Rattle.std.specs.Prelude.{Option, Some, None, is_none, Result, Ok, Err, if◌then◌else◌}
+use Rattle.objasm.specs.Exchanges.{exchange_of, exchanged_word, flipped}
 use Rattle.objasm.specs.Names.{Meanings, and_then, is_set, mapped}
 use Rattle.objasm.specs.Parts.{Part, Run, Byte, after_blanks, first_field, front_blanks, is_stop}
 use Rattle.objasm.specs.Settings.{Setting, setting_of, value_of}
 use Rattle.objasm.specs.Symbols.{begins_number}
 use Rattle.objasm.specs.Words.{is_directive, kind_of, word_text}
+use Rattle.objasm.specs.declared.exchanges.Flip.{Flip}
 use Rattle.objasm.specs.declared.faults.LineFault.{LineFault}
 use Rattle.objasm.specs.declared.faults.LineFault.TheVariants.{NameTwice, UnknownDirective}
 use Rattle.objasm.specs.declared.plain_lines.Translation.{Translation}
-use Rattle.objasm.specs.declared.plain_lines.Translation.TheVariants.{Number, Offset, Value, Parts}
+use Rattle.objasm.specs.declared.plain_lines.Translation.TheVariants.{Number, Offset, Changed, Value, Parts}
 use Rattle.objasm.specs.declared.words.Operands.{Operands}
-use Rattle.objasm.specs.declared.words.Operands.TheVariants.{Values, Offsets, Others}
+use Rattle.objasm.specs.declared.words.Operands.TheVariants.{Values, Offsets, Exchanged, Others}
 
 -- the text after a reading
 abbrev pub Text : Type 0
@@ -52,6 +54,7 @@ with_parts m (p ∷ ps) done = with_parts m ps (done ++ part_text m p)
 -- how what follows a stop is translated
 abbrev pub written : Operands → ℕ → Translation
 written Offsets stop = if stop == 35 then Offset else Parts
+written (Exchanged flip) stop = if stop == 35 then Changed flip else Parts
 written Values stop = if stop == 35 then Number else Value
 written Others stop = if stop == 35 then Number else Parts
 
@@ -78,6 +81,7 @@ put_value m ps done =
 abbrev pub put_field : Meanings → Translation → List Part → List ℕ → Text
 put_field m Number ps done = mapped (λ n. done ++ decimal n) (value_of m ps)
 put_field m Offset ps done = mapped (λ n. done ++ offset_text n) (value_of m ps)
+put_field m (Changed flip) ps done = mapped (λ n. done ++ decimal (flipped flip n)) (value_of m ps)
 put_field m Value ps done = put_value m ps done
 put_field m Parts ps done = Ok (with_parts m ps done)
 
@@ -98,10 +102,24 @@ put_operands m kind ps done =
 
 -- ## The line
 
+abbrev pub kind_with : List ℕ → Option Flip → Operands
+kind_with word (Some flip) = Exchanged flip
+kind_with word None = kind_of word
+
+abbrev pub word_with : List ℕ → Option Flip → List ℕ
+word_with word (Some flip) = exchanged_word word
+word_with word None = word
+
+abbrev pub put_exchanged : Meanings → List ℕ → List Part → List ℕ → Option Flip → Text
+put_exchanged m word ps done exchange =
+    put_operands m (kind_with word exchange) (after_blanks ps)
+    (with_parts m (front_blanks ps) (done ++ word_text (word_with word exchange)))
+
+-- a word and its operands, which are exchanged for others where the number fits only so
 abbrev pub put_instruction : Meanings → List ℕ → List Part → List ℕ → Text
 put_instruction m word ps done =
     if is_directive word then Err UnknownDirective
-    else put_operands m (kind_of word) (after_blanks ps) (with_parts m (front_blanks ps) (done ++ word_text word))
+    else and_then (put_exchanged m word ps done) (exchange_of m word ps)
 
 abbrev pub put_word : Meanings → List Part → List ℕ → Text
 put_word m [] done = Ok done

@@ -5,8 +5,9 @@ use Rattle.std.specs.Char.{is_ascii_digit}
 use Rattle.std.specs.List.{cons_option}
 use Rattle.std.specs.Option.{ok_or}
 use Rattle.std.specs.Str.{bytes_eq}
-use Rattle.asm_text.specs.Numbers.{number_by, read_number}
+use Rattle.asm_text.specs.Numbers.{number_by}
 use Rattle.objasm.specs.Names.{Meanings, and_then, mapped}
+use Rattle.objasm.specs.Numerals.{read_numeral}
 use Rattle.objasm.specs.Parts.{Part, Run, Byte}
 use Rattle.objasm.specs.declared.faults.LineFault.{LineFault}
 use Rattle.objasm.specs.declared.faults.LineFault.TheVariants.{BadExpression, BadNumber, NameMissing}
@@ -38,7 +39,7 @@ begins_number (b ∷ bs) = is_ascii_digit b
 -- the number that a run stands for: by its digits, or as the name of one
 abbrev pub number_of : Meanings → List ℕ → Result ℕ LineFault
 number_of m run =
-    if begins_number run then ok_or (read_number run) BadNumber else ok_or (m.constants run) NameMissing
+    if begins_number run then ok_or (read_numeral run) BadNumber else ok_or (m.constants run) NameMissing
 
 -- a symbol, if one is read to its end, and what has been read of the next
 abbrev pub Step : Type 0

@@ -2,9 +2,11 @@
 #![tactic(auto)]
 
 mod evaluation;
+mod exchanges;
 mod faults;
 mod law;
 mod names;
+mod numbers;
 mod operators;
 mod plain_lines;
 mod settings;

@@ -1,13 +1,15 @@
 //! What stands in our grammar for a line of the dialect.
 
-ghost use Rattle.std.specs.Prelude.{◌≡◌, ◌++◌, ◌≤◌, OnOk, IfErr, Ok, decimal, drop, length, map};
+ghost use Rattle.std.specs.Prelude.{◌≡◌, ◌++◌, OnOk, IfErr, Ok, decimal, map};
 ghost use Rattle.objasm.specs.Names.{Told, meanings_of};
 ghost use Rattle.objasm.specs.Parts.{part_of};
-ghost use Rattle.objasm.specs.PlainLines.{is_label, is_label_field, is_over, offset_text, part_text, put_body};
-ghost use Rattle.objasm.specs.PlainLines.{put_field, put_instruction, put_operands, put_plain, put_statement, put_stop};
-ghost use Rattle.objasm.specs.PlainLines.{put_stops, put_value, put_word, register_text, run_text, with_parts};
-ghost use Rattle.objasm.specs.PlainLines.{written};
+ghost use Rattle.objasm.specs.PlainLines.{is_label, is_label_field, is_over, kind_with, offset_text, part_text};
+ghost use Rattle.objasm.specs.PlainLines.{put_body, put_field, put_instruction, put_operands, put_plain, put_statement};
+ghost use Rattle.objasm.specs.PlainLines.{put_stop, put_stops, put_value, put_word, register_text, run_text, with_parts};
+ghost use Rattle.objasm.specs.PlainLines.{word_with, written};
+ghost use Rattle.objasm.specs.Words.{word_text};
 
+use crate::exchanges::{Flip, exchange_of, exchanged_word, flipped, from};
 use crate::faults::LineFault;
 use crate::names::Names;
 use crate::settings::{setting_of, value_of};
@@ -24,6 +26,8 @@ pub enum Translation {
     Number,
     /// An expression, with a `-` if its value is 2^31 or more.
     Offset,
+    /// An expression, whose value is changed.
+    Changed(Flip),
     /// An expression or a label.
     Value,
     /// Names of registers and numbers, and what else there is.
@@ -37,6 +41,7 @@ fn written(kind: Operands, stop: u8) -> Translation
     if stop == b'#' {
         match kind {
             Operands::Offsets => Translation::Offset,
+            Operands::Exchanged(flip) => Translation::Changed(flip),
             _ => Translation::Number,
         }
     } else {
@@ -155,6 +160,11 @@ fn put_field(
             put_offset(out, n)?;
             Ok(())
         }
+        Translation::Changed(flip) => {
+            let n = value_of(alloc, names, tokens)?;
+            put_number(out, flipped(flip, n))?;
+            Ok(())
+        }
         Translation::Value => put_value(alloc, names, tokens, out),
         Translation::Parts => {
             put_parts(names, tokens, out)?;
@@ -209,13 +219,6 @@ fn put_stop(
     }
 }
 
-fn from<'a, 'b>(tokens: &'b [Token<'a>], index: usize) -> &'b [Token<'a>]
-    requires { index ≤ length tokens.now }
-    ensures { result.now ≡ drop index tokens.now }
-{
-    &tokens[index..]
-}
-
 // Each stop, and what follows it.
 fn put_stops(
     alloc: Global,
@@ -256,6 +259,33 @@ fn put_operands(
     put_stops(alloc, names, kind, tokens, out)
 }
 
+// The operands of a word, where it is exchanged in this way.
+fn kind_with(word: &[u8], exchange: Option<Flip>) -> Operands
+    ensures { result ≡ kind_with word.now exchange }
+{
+    match exchange {
+        Some(flip) => Operands::Exchanged(flip),
+        None => kind_of(word),
+    }
+}
+
+fn put_word_with(
+    alloc: Global,
+    word: &[u8],
+    exchange: Option<Flip>,
+    out: &mut Vec<u8>,
+) -> Result<(), AllocError>
+    ensures { OnOk result (out.new.items ≡ out.old.items ++ word_text (word_with word.now exchange)) }
+{
+    match exchange {
+        Some(_) => {
+            let other = exchanged_word(alloc, word)?;
+            put_word_text(&other, out)
+        }
+        None => put_word_text(word, out),
+    }
+}
+
 fn put_instruction(
     alloc: Global,
     names: &Names,
@@ -273,9 +303,10 @@ fn put_instruction(
     if is_directive(word) {
         return Err(LineFault::UnknownDirective);
     }
-    put_word_text(word, out)?;
+    let exchange = exchange_of(alloc, names, word, tokens)?;
+    put_word_with(alloc, word, exchange, out)?;
     put_parts(names, front_blanks(tokens), out)?;
-    put_operands(alloc, names, kind_of(word), after_blanks(tokens), out)
+    put_operands(alloc, names, kind_with(word, exchange), after_blanks(tokens), out)
 }
 
 fn put_word(

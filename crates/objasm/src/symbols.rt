@@ -8,9 +8,10 @@ ghost use Rattle.objasm.specs.declared.symbols.Reading.TheVariants.{Ready};
 
 use crate::faults::LineFault;
 use crate::names::Names;
+use crate::numbers::read_numeral;
 use crate::operators::Binary;
 use crate::token::Token;
-use asm_text::{read_hex, read_number};
+use asm_text::read_hex;
 use std::alloc::{AllocError, Global};
 
 /// What an expression is written with.
@@ -83,7 +84,7 @@ fn number_of(names: &Names, run: &[u8]) -> Result<u32, LineFault>
     ensures { result ≡ number_of (meanings_of names.now) run.now }
 {
     if begins_number(run) {
-        return read_number(run).ok_or(LineFault::BadNumber);
+        return read_numeral(run).ok_or(LineFault::BadNumber);
     }
     names.constants.get(run).ok_or(LineFault::NameMissing)
 }

@@ -3,6 +3,7 @@
 ghost use Rattle.std.specs.Prelude.{◌≡◌, ◌++◌, OnOk, map};
 ghost use Rattle.objasm.specs.Words.{cond_place, is_directive, is_one_of, kind_of, known_cond, word_text};
 
+use crate::exchanges::Flip;
 use std::alloc::AllocError;
 
 /// What the operands of a word are.
@@ -12,6 +13,8 @@ pub enum Operands {
     Values,
     /// Those of LDR and STR, whose numbers after `#` have signs.
     Offsets,
+    /// Those of a word that is exchanged, whose number is changed.
+    Exchanged(Flip),
     /// Any other.
     Others,
 }
