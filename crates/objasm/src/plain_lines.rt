@@ -306,7 +306,13 @@ fn put_instruction(
     let exchange = exchange_of(alloc, names, word, tokens)?;
     put_word_with(alloc, word, exchange, out)?;
     put_parts(names, front_blanks(tokens), out)?;
-    put_operands(alloc, names, kind_with(word, exchange), after_blanks(tokens), out)
+    put_operands(
+        alloc,
+        names,
+        kind_with(word, exchange),
+        after_blanks(tokens),
+        out,
+    )
 }
 
 fn put_word(

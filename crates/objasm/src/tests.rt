@@ -1,19 +1,52 @@
-use crate::source::{DialectFault, plain_source};
 use crate::faults::LineFault;
+use crate::source::{DialectFault, plain_source};
 
 // Texts of the dialect, and what stands for them.
 const TEXTS: [(&[u8], &[u8]); 12] = [
-    (b"a EQU 1\n b\n MOV R0,#a+2*3\n", b" ; a EQU 1\n b\n MOV R0,#7 ;  MOV R0,#a+2*3\n"),
-    (b"x * &10 ; sixteen\n DCD x,lab, x:SHL:2 + 1 ,-1\n", b" ; x * &10 ; sixteen\n DCD 16,lab,65,4294967295 ;  DCD x,lab, x:SHL:2 + 1 ,-1\n"),
-    (b"p_ EQU 4\nq rn p_+1\n MOV q,Q\n", b" ; p_ EQU 4\n ; q rn p_+1\n MOV R5,Q ;  MOV q,Q\n"),
-    (b"base RN 12\nof EQU 8\nl LDR base,[base,#-of]!\n STMFD SP!,{base,R0-base,pc}^\n", b" ; base RN 12\n ; of EQU 8\nl LDR R12,[R12,#-8]! ; l LDR base,[base,#-of]!\n STMFD SP!,{R12,R0-R12,pc}^ ;  STMFD SP!,{base,R0-base,pc}^\n"),
-    (b" MOVHS R0,R1,LSL #2+1\n blo lab ; b\n BLHS x\n CMPLOP R1,#':'\n BICHSS R1,R1,#'A'", b" MOVCS R0,R1,LSL #3 ;  MOVHS R0,R1,LSL #2+1\n bcc lab  ;  blo lab ; b\n BLCS x ;  BLHS x\n CMPCCP R1,#58 ;  CMPLOP R1,#':'\n BICCSS R1,R1,#65 ;  BICHSS R1,R1,#'A'\n"),
-    (b" ORG &8000+4*2\n SWI 1<<17\n DCD (2+3)*4, 10/3, 10:MOD:3, -2-3, :NOT:0, 2+3:SHL:1, 1:OR:6:AND:4\n", b" ORG 32776 ;  ORG &8000+4*2\n SWI 131072 ;  SWI 1<<17\n DCD 20,3,1,4294967291,4294967295,8,4 ;  DCD (2+3)*4, 10/3, 10:MOD:3, -2-3, :NOT:0, 2+3:SHL:1, 1:OR:6:AND:4\n"),
-    (b" ADD R0, R1 , # 4\nlab\n", b" ADD R0, R1 , #4 ;  ADD R0, R1 , # 4\nlab\n"),
-    (b" LDRB R1,[R2],#0-4\n", b" LDRB R1,[R2],#-4 ;  LDRB R1,[R2],#0-4\n"),
-    (b" MOVS R0,#-1\n CMP R1,# -4\n addlo r2,r2,#-4\n ANDEQS R3,R4,#&FFFFFF00\n", b" MVNS R0,#0 ;  MOVS R0,#-1\n CMN R1,#4 ;  CMP R1,# -4\n subcc r2,r2,#4 ;  addlo r2,r2,#-4\n BICEQS R3,R4,#255 ;  ANDEQS R3,R4,#&FFFFFF00\n"),
-    (b" MOV R0,#-1,0\n ADD R0,R1,R2,LSL #31\n MOV R0,#&102\n SUB R1,R1,#256\n ORR R0,R0,#-1\n", b" MVN R0,#0,0 ;  MOV R0,#-1,0\n ADD R0,R1,R2,LSL #31\n MOV R0,#258 ;  MOV R0,#&102\n SUB R1,R1,#256\n ORR R0,R0,#4294967295 ;  ORR R0,R0,#-1\n"),
-    (b" DCD 2_1010,9_17,0x1F,8_777\n", b" DCD 10,16,31,511 ;  DCD 2_1010,9_17,0x1F,8_777\n"),
+    (
+        b"a EQU 1\n b\n MOV R0,#a+2*3\n",
+        b" ; a EQU 1\n b\n MOV R0,#7 ;  MOV R0,#a+2*3\n",
+    ),
+    (
+        b"x * &10 ; sixteen\n DCD x,lab, x:SHL:2 + 1 ,-1\n",
+        b" ; x * &10 ; sixteen\n DCD 16,lab,65,4294967295 ;  DCD x,lab, x:SHL:2 + 1 ,-1\n",
+    ),
+    (
+        b"p_ EQU 4\nq rn p_+1\n MOV q,Q\n",
+        b" ; p_ EQU 4\n ; q rn p_+1\n MOV R5,Q ;  MOV q,Q\n",
+    ),
+    (
+        b"base RN 12\nof EQU 8\nl LDR base,[base,#-of]!\n STMFD SP!,{base,R0-base,pc}^\n",
+        b" ; base RN 12\n ; of EQU 8\nl LDR R12,[R12,#-8]! ; l LDR base,[base,#-of]!\n STMFD SP!,{R12,R0-R12,pc}^ ;  STMFD SP!,{base,R0-base,pc}^\n",
+    ),
+    (
+        b" MOVHS R0,R1,LSL #2+1\n blo lab ; b\n BLHS x\n CMPLOP R1,#':'\n BICHSS R1,R1,#'A'",
+        b" MOVCS R0,R1,LSL #3 ;  MOVHS R0,R1,LSL #2+1\n bcc lab  ;  blo lab ; b\n BLCS x ;  BLHS x\n CMPCCP R1,#58 ;  CMPLOP R1,#':'\n BICCSS R1,R1,#65 ;  BICHSS R1,R1,#'A'\n",
+    ),
+    (
+        b" ORG &8000+4*2\n SWI 1<<17\n DCD (2+3)*4, 10/3, 10:MOD:3, -2-3, :NOT:0, 2+3:SHL:1, 1:OR:6:AND:4\n",
+        b" ORG 32776 ;  ORG &8000+4*2\n SWI 131072 ;  SWI 1<<17\n DCD 20,3,1,4294967291,4294967295,8,4 ;  DCD (2+3)*4, 10/3, 10:MOD:3, -2-3, :NOT:0, 2+3:SHL:1, 1:OR:6:AND:4\n",
+    ),
+    (
+        b" ADD R0, R1 , # 4\nlab\n",
+        b" ADD R0, R1 , #4 ;  ADD R0, R1 , # 4\nlab\n",
+    ),
+    (
+        b" LDRB R1,[R2],#0-4\n",
+        b" LDRB R1,[R2],#-4 ;  LDRB R1,[R2],#0-4\n",
+    ),
+    (
+        b" MOVS R0,#-1\n CMP R1,# -4\n addlo r2,r2,#-4\n ANDEQS R3,R4,#&FFFFFF00\n",
+        b" MVNS R0,#0 ;  MOVS R0,#-1\n CMN R1,#4 ;  CMP R1,# -4\n subcc r2,r2,#4 ;  addlo r2,r2,#-4\n BICEQS R3,R4,#255 ;  ANDEQS R3,R4,#&FFFFFF00\n",
+    ),
+    (
+        b" MOV R0,#-1,0\n ADD R0,R1,R2,LSL #31\n MOV R0,#&102\n SUB R1,R1,#256\n ORR R0,R0,#-1\n",
+        b" MVN R0,#0,0 ;  MOV R0,#-1,0\n ADD R0,R1,R2,LSL #31\n MOV R0,#258 ;  MOV R0,#&102\n SUB R1,R1,#256\n ORR R0,R0,#4294967295 ;  ORR R0,R0,#-1\n",
+    ),
+    (
+        b" DCD 2_1010,9_17,0x1F,8_777\n",
+        b" DCD 10,16,31,511 ;  DCD 2_1010,9_17,0x1F,8_777\n",
+    ),
     (b"", b""),
 ];
 
