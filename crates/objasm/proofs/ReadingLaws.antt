@@ -1,13 +1,13 @@
 -- Symbols that are read to a value spell an expression of that value.
-use Rattle.std.proofs.Common.{◌≡◌, ◌+◌, ◌<◌, ◌≤◌, ℕ, Bool, true, false, cond, List, [], ◌∷◌, ◌++◌, map, Option, Some, None, refl, sym, ap, ◌∙◌, append_assoc, inl, inr, arith}
+use Rattle.std.proofs.Common.{◌≡◌, ℕ, Bool, true, false, List, [], ◌∷◌, ◌++◌, map, Option, Some, refl, sym, ap, ◌∙◌, append_assoc, inl, inr, arith}
 use Rattle.std.specs.Prelude.{nat_le, nat_lt}
 use Rattle.std.specs.Option.{option_and_then}
 use Rattle.std.proofs.lemmas.Bool.{cases_Bool}
 use Rattle.std.proofs.lemmas.Bool.Decides.{nat_tests}
 use Rattle.std.proofs.lemmas.List.{append-nil}
 use Rattle.std.proofs.lemmas.Option.{same_Some}
-use Rattle.objasm.specs.Evaluation.{closed, evaluated, ended, is_ready, reduced, released, run}
-use Rattle.objasm.specs.Expressions.{Expression, Lone, Group, Applied, Between, IsGrouped, Spells, applied, between, outer_level, symbols_of, unary_symbol, value}
+use Rattle.objasm.specs.Evaluation.{closed, evaluated, ended, reduced, run}
+use Rattle.objasm.specs.Expressions.{Expression, Lone, Group, Applied, Between, IsGrouped, Spells, outer_level, symbols_of, unary_symbol, value}
 use Rattle.objasm.specs.Operators.{level}
 use Rattle.objasm.specs.declared.evaluation.Place.{Place}
 use Rattle.objasm.specs.declared.evaluation.Place.TheVariants.{Expects, Has}
@@ -100,9 +100,9 @@ sinks k (Left x b ∷ hs) e h g inside low =
             inner = s.inner;
             same = reduced_ready k (waits.Between (value x) b) (all_waiting hs) (value e) ready ∙ s.same;
             symbols =
-              append_assoc (held_symbols hs) (symbols_of x ++ Operator b ∷ []) (symbols_of e)
-              ∙ ap (λ (ss : List Symbol). held_symbols hs ++ ss) (append_assoc (symbols_of x) (Operator b ∷ []) (symbols_of e))
-              ∙ s.symbols;
+                append_assoc (held_symbols hs) (symbols_of x ++ Operator b ∷ []) (symbols_of e)
+                ∙ ap (λ (ss : List Symbol). held_symbols hs ++ ss) (append_assoc (symbols_of x) (Operator b ∷ []) (symbols_of e))
+                ∙ s.symbols;
             held = s.held;
             grouped = s.grouped;
             low = s.low;
@@ -253,14 +253,14 @@ sound (Not ∷ ss) hs (Full e) v h q is = absurd (no_not (all_waiting hs) (value
 sound (Operator b ∷ ss) hs (Full e) v h q is =
     let s = sunk_of (level b) hs e h q in
     as_symbols _ _ v (
-      append_assoc (held_symbols s.rest) (symbols_of s.inner ++ Operator b ∷ []) ss
-      ∙ ap (λ (ts : List Symbol). held_symbols s.rest ++ ts) (append_assoc (symbols_of s.inner) (Operator b ∷ []) ss)
-      ∙ sym (append_assoc (held_symbols s.rest) (symbols_of s.inner) (Operator b ∷ ss))
-      ∙ ap (λ (ts : List Symbol). ts ++ Operator b ∷ ss) (sym s.symbols)
-      ∙ append_assoc (held_symbols hs) (symbols_of e) (Operator b ∷ ss)
+    append_assoc (held_symbols s.rest) (symbols_of s.inner ++ Operator b ∷ []) ss
+    ∙ ap (λ (ts : List Symbol). held_symbols s.rest ++ ts) (append_assoc (symbols_of s.inner) (Operator b ∷ []) ss)
+    ∙ sym (append_assoc (held_symbols s.rest) (symbols_of s.inner) (Operator b ∷ ss))
+    ∙ ap (λ (ts : List Symbol). ts ++ Operator b ∷ ss) (sym s.symbols)
+    ∙ append_assoc (held_symbols hs) (symbols_of e) (Operator b ∷ ss)
     ) (
-      sound ss (Left s.inner b ∷ s.rest) Free v (s.grouped, s.low, stopped_room b s.rest s.stopped, s.held) tt
-      (sym (step_operator (all_waiting hs) (value e) b ss (all_waiting s.rest) (value s.inner) s.same) ∙ is)
+    sound ss (Left s.inner b ∷ s.rest) Free v (s.grouped, s.low, stopped_room b s.rest s.stopped, s.held) tt
+    (sym (step_operator (all_waiting hs) (value e) b ss (all_waiting s.rest) (value s.inner) s.same) ∙ is)
     )
 sound (Close ∷ ss) hs (Full e) v h q is =
     let s = sunk_of 3 hs e h q in
@@ -277,11 +277,11 @@ sound (Close ∷ ss) hs (Full e) v h q is =
     closes (Opened ∷ rest) next symbols held is =
         let inner = (sunk_of 3 hs e h q).inner in
         as_symbols _ _ v (
-          ap (λ (ts : List Symbol). held_symbols rest ++ Open ∷ ts) (append_assoc (symbols_of inner) (Close ∷ []) ss)
-          ∙ sym (append_assoc (held_symbols rest) (Open ∷ []) (symbols_of inner ++ Close ∷ ss))
-          ∙ sym (append_assoc (held_symbols rest ++ Open ∷ []) (symbols_of inner) (Close ∷ ss))
-          ∙ ap (λ (ts : List Symbol). ts ++ Close ∷ ss) (sym symbols)
-          ∙ append_assoc (held_symbols hs) (symbols_of e) (Close ∷ ss)
+        ap (λ (ts : List Symbol). held_symbols rest ++ Open ∷ ts) (append_assoc (symbols_of inner) (Close ∷ []) ss)
+        ∙ sym (append_assoc (held_symbols rest) (Open ∷ []) (symbols_of inner ++ Close ∷ ss))
+        ∙ sym (append_assoc (held_symbols rest ++ Open ∷ []) (symbols_of inner) (Close ∷ ss))
+        ∙ ap (λ (ts : List Symbol). ts ++ Close ∷ ss) (sym symbols)
+        ∙ append_assoc (held_symbols hs) (symbols_of e) (Close ∷ ss)
         ) (next rest held is)
 
 pub read_so : (ss : List Symbol) (v : Option ℕ) → evaluated ss ≡ Some v → Found ss v

@@ -1,5 +1,5 @@
 -- The lines of a source, one after the other.
-use Rattle.std.proofs.Common.{◌≡◌, ◌+◌, ◌⊎◌, inl, inr, ℕ, List, [], ◌∷◌, Result, Ok, Err, refl, sym, ap, ◌∙◌}
+use Rattle.std.proofs.Common.{◌≡◌, ◌+◌, inl, inr, ℕ, List, [], ◌∷◌, Result, Ok, refl, sym, ap, ◌∙◌}
 use Rattle.asm_text.specs.Source.{lines_of}
 use Rattle.objasm.specs.Names.{Meanings, Told}
 use Rattle.objasm.specs.Source.{FaultedAt, Plain, at_line, fault_at, line_settled, put_lines, put_next, settings}

@@ -1,12 +1,12 @@
 -- Words that are exchanged where a number fits as a rotated byte only the other way.
-use Rattle.std.specs.Prelude.{ℕ, zero, suc, ◌+◌, ◌-◌, ◌*◌, ◌%◌, ◌^◌, ◌==◌, ◌&&◌, ◌||◌, not, nat_lt, Bool, false}
+use Rattle.std.specs.Prelude.{ℕ, zero, suc, ◌-◌, ◌*◌, ◌%◌, ◌^◌, ◌==◌, ◌&&◌, ◌||◌, not, nat_lt, Bool, false}
 use Rattle.std.specs.Prelude.{List, [], ◌∷◌, ◌++◌, codes, length, take, drop, Option, Some, None}
 use Rattle.std.specs.Prelude.{Result, Ok, if◌then◌else◌}
 use Rattle.std.specs.Int.{w32, rotate_left}
 use Rattle.std.specs.Option.{option_or}
 use Rattle.std.specs.Str.{bytes_eq}
 use Rattle.objasm.specs.Names.{Meanings, mapped}
-use Rattle.objasm.specs.Parts.{Part, Run, Byte, after_blanks, first_field}
+use Rattle.objasm.specs.Parts.{Part, Byte, after_blanks, first_field}
 use Rattle.objasm.specs.Settings.{value_of}
 use Rattle.objasm.specs.Words.{is_one_of}
 use Rattle.objasm.specs.declared.exchanges.Flip.{Flip}

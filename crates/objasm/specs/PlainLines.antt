@@ -1,13 +1,13 @@
 -- What stands in our grammar for a line of the dialect: each definition gives the text so far with what is put
 -- after it.
 use Rattle.std.specs.Prelude.{◌==◌, ◌&&◌, ◌-◌, ◌^◌, not, nat_lt, ℕ, Bool, true, false, List, [], ◌∷◌, ◌++◌, decimal}
-use Rattle.std.specs.Prelude.{Option, Some, None, is_none, Result, Ok, Err, if◌then◌else◌}
+use Rattle.std.specs.Prelude.{codes, Option, Some, None, is_none, Result, Ok, Err, if◌then◌else◌}
 use Rattle.objasm.specs.Exchanges.{exchange_of, exchanged_word, flipped}
 use Rattle.objasm.specs.Names.{Meanings, and_then, is_set, mapped}
 use Rattle.objasm.specs.Parts.{Part, Run, Byte, after_blanks, first_field, front_blanks, is_stop}
 use Rattle.objasm.specs.Settings.{Setting, setting_of, value_of}
 use Rattle.objasm.specs.Symbols.{begins_number}
-use Rattle.objasm.specs.Words.{is_directive, kind_of, word_text}
+use Rattle.objasm.specs.Words.{is_directive, is_nop, kind_of, word_text}
 use Rattle.objasm.specs.declared.exchanges.Flip.{Flip}
 use Rattle.objasm.specs.declared.faults.LineFault.{LineFault}
 use Rattle.objasm.specs.declared.faults.LineFault.TheVariants.{NameTwice, UnknownDirective}
@@ -118,7 +118,8 @@ put_exchanged m word ps done exchange =
 -- a word and its operands, which are exchanged for others where the number fits only so
 abbrev pub put_instruction : Meanings → List ℕ → List Part → List ℕ → Text
 put_instruction m word ps done =
-    if is_directive word then Err UnknownDirective
+    if is_nop word then Ok (with_parts m ps (done ++ codes "MOV R0,R0"))
+    else if is_directive word then Err UnknownDirective
     else and_then (put_exchanged m word ps done) (exchange_of m word ps)
 
 abbrev pub put_word : Meanings → List Part → List ℕ → Text

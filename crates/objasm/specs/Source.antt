@@ -1,8 +1,8 @@
 -- A whole source: the names that its lines set, and what stands for each of its lines.
-use Rattle.std.specs.Prelude.{◌≡◌, ◌==◌, ◌+◌, not, ℕ, List, [], ◌∷◌, ◌++◌, length, take, drop, Result, Ok, Err}
+use Rattle.std.specs.Prelude.{◌≡◌, ◌==◌, ◌+◌, not, ℕ, List, [], ◌∷◌, ◌++◌, take, drop, Result, Ok, Err}
 use Rattle.std.specs.List.{prefix_len}
 use Rattle.asm_text.specs.Source.{lines_of}
-use Rattle.objasm.specs.Names.{Meanings, and_then, mapped, no_meanings}
+use Rattle.objasm.specs.Names.{Meanings, mapped, no_meanings}
 use Rattle.objasm.specs.Parts.{parts}
 use Rattle.objasm.specs.PlainLines.{put_body}
 use Rattle.objasm.specs.Settings.{settled}

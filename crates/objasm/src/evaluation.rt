@@ -181,7 +181,10 @@ fn finished(stack: &mut Vec<Waiting>, place: Place) -> Option<Option<u32>>
 }
 
 /// The value of the expression that the symbols are, none where it divides by 0. None where they are none.
-pub(crate) fn evaluated(alloc: Global, symbols: &[Symbol]) -> Result<Option<Option<u32>>, AllocError>
+pub(crate) fn evaluated(
+    alloc: Global,
+    symbols: &[Symbol],
+) -> Result<Option<Option<u32>>, AllocError>
     ensures { IfOk result (λ found. found ≡ evaluated symbols.now) }
 {
     let mut stack = Vec::new(alloc);

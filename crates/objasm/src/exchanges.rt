@@ -22,8 +22,13 @@ pub enum Flip {
     Negate,
 }
 
-const INVERTED_HEADS: [&[u8]; 8] = [b"MOV", b"MVN", b"AND", b"BIC", b"mov", b"mvn", b"and", b"bic"];
-const NEGATED_HEADS: [&[u8]; 8] = [b"ADD", b"SUB", b"CMP", b"CMN", b"add", b"sub", b"cmp", b"cmn"];
+const INVERTED_HEADS: [&[u8]; 8] = [
+    b"MOV", b"MVN", b"AND", b"BIC", b"mov", b"mvn", b"and", b"bic",
+];
+
+const NEGATED_HEADS: [&[u8]; 8] = [
+    b"ADD", b"SUB", b"CMP", b"CMN", b"add", b"sub", b"cmp", b"cmn",
+];
 
 // Whether a number is a byte that is rotated by an even number of places.
 fn is_rotated(n: u32) -> bool
@@ -169,7 +174,11 @@ fn exchange_by(
         Told fault (exchange_by (meanings_of names.now) (Some flip) (Some (map part_of field.now)))) }
 {
     let n = value_of(alloc, names, field)?;
-    if is_needed(flip, n) { Ok(Some(flip)) } else { Ok(None) }
+    if is_needed(flip, n) {
+        Ok(Some(flip))
+    } else {
+        Ok(None)
+    }
 }
 
 /// How the number of an instruction is changed together with its word, if it is.

@@ -40,7 +40,13 @@ impl Names {
     }
 
     /// Sets a name that is not set. `Memory`: an allocation failed.
-    pub fn put(&mut self, alloc: Global, name: &[u8], kind: Kind, value: u32) -> Result<(), LineFault>
+    pub fn put(
+        &mut self,
+        alloc: Global,
+        name: &[u8],
+        kind: Kind,
+        value: u32,
+    ) -> Result<(), LineFault>
         ensures ok { OnOk result
             (meanings_of self.new ≡ with_meaning name.now kind value (meanings_of self.old)) }
         ensures memory { IfErr result (λ fault. fault ≡ LineFault.Memory) }

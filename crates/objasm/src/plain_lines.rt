@@ -15,7 +15,7 @@ use crate::names::Names;
 use crate::settings::{setting_of, value_of};
 use crate::symbols::begins_number;
 use crate::token::{Token, after_blanks, first_field, front_blanks, is_stop};
-use crate::words::{Operands, is_directive, kind_of, put_word_text};
+use crate::words::{Operands, is_directive, is_nop, kind_of, put_word_text};
 use itoa::Buffer;
 use std::alloc::{AllocError, Global};
 
@@ -300,13 +300,24 @@ fn put_instruction(
         (λ fault. Told fault
         (put_instruction (meanings_of names.now) word.now (map part_of tokens.now) out.old.items)) }
 {
+    if is_nop(word) {
+        out.extend_from_slice(b"MOV R0,R0")?;
+        put_parts(names, tokens, out)?;
+        return Ok(());
+    }
     if is_directive(word) {
         return Err(LineFault::UnknownDirective);
     }
     let exchange = exchange_of(alloc, names, word, tokens)?;
     put_word_with(alloc, word, exchange, out)?;
     put_parts(names, front_blanks(tokens), out)?;
-    put_operands(alloc, names, kind_with(word, exchange), after_blanks(tokens), out)
+    put_operands(
+        alloc,
+        names,
+        kind_with(word, exchange),
+        after_blanks(tokens),
+        out,
+    )
 }
 
 fn put_word(

@@ -36,11 +36,7 @@ fn outcome(found: Option<Option<u32>>) -> Result<u32, LineFault>
 }
 
 /// The value of an expression.
-pub(crate) fn value_of(
-    alloc: Global,
-    names: &Names,
-    tokens: &[Token<'_>],
-) -> Result<u32, LineFault>
+pub(crate) fn value_of(alloc: Global, names: &Names, tokens: &[Token<'_>]) -> Result<u32, LineFault>
     ensures ok { IfOk result (λ n. value_of (meanings_of names.now) (map part_of tokens.now) ≡ Ok n) }
     ensures fault { IfErr result
         (λ fault. Told fault (value_of (meanings_of names.now) (map part_of tokens.now))) }
@@ -101,11 +97,7 @@ fn is_no_name(name: &[u8]) -> bool
 }
 
 // The value that a name is set to.
-fn setting_value(
-    alloc: Global,
-    names: &Names,
-    setting: Setting<'_, '_>,
-) -> Result<u32, LineFault>
+fn setting_value(alloc: Global, names: &Names, setting: Setting<'_, '_>) -> Result<u32, LineFault>
     ensures ok { IfOk result
         (λ n. setting_value (meanings_of names.now) (setting_view setting.entry) ≡ Ok n) }
     ensures fault { IfErr result

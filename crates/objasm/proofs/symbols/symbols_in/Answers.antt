@@ -21,7 +21,7 @@ returns-in_default c =
     record {
       ok = tt;
       fault = inr (
-        symbols_end (meanings_of c.args.names.now) c.loop-token.reading c.loop-token.found.items c.args.tokens.now c.loop-token.token-index _ c.loop-token-test.false c.loop-token.invariant
-        ∙ not_all_found c.loop-token.found.items c.loop-token.reading c.in_default.not-Ready
-      );
+          symbols_end (meanings_of c.args.names.now) c.loop-token.reading c.loop-token.found.items c.args.tokens.now c.loop-token.token-index _ c.loop-token-test.false c.loop-token.invariant
+          ∙ not_all_found c.loop-token.found.items c.loop-token.reading c.in_default.not-Ready
+          );
     }
