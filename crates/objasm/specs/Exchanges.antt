@@ -88,7 +88,8 @@ immediate_in [] = None
 immediate_in (p ∷ ps) = option_or (immediate_at (p ∷ ps)) (immediate_in ps)
 
 abbrev pub exchange_by : Meanings → Option Flip → Option (List Part) → Result (Option Flip) LineFault
-exchange_by m (Some flip) (Some field) = mapped (λ n. if is_needed flip n then Some flip else None) (value_of m field)
+exchange_by m (Some flip) (Some field) =
+    mapped (λ n. if is_needed flip n then Some flip else None) (value_of m field)
 exchange_by m _ _ = Ok None
 
 -- how the number of an instruction is changed together with its word, if it is

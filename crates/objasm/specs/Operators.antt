@@ -3,7 +3,8 @@ use Rattle.std.specs.Prelude.{ℕ, ◌+◌, ◌-◌, ◌*◌, ◌/◌, ◌%◌, 
 use Rattle.std.specs.Prelude.{Option, Some, None, if◌then◌else◌}
 use Rattle.std.specs.Int.{w32, rotate_left, rotate_right}
 use Rattle.objasm.specs.declared.operators.Binary.{Binary}
-use Rattle.objasm.specs.declared.operators.Binary.TheVariants.{Times, Over, Mod, Shl, Shr, Rol, Ror, Plus, Minus}
+use Rattle.objasm.specs.declared.operators.Binary.TheVariants.{Times, Over, Mod, Shl, Shr, Rol, Ror, Plus}
+use Rattle.objasm.specs.declared.operators.Binary.TheVariants.{Minus}
 use Rattle.objasm.specs.declared.operators.Binary.TheVariants.{And, Or, Eor}
 use Rattle.objasm.specs.declared.operators.Unary.{Unary}
 use Rattle.objasm.specs.declared.operators.Unary.TheVariants.{Keep, Negate, Invert}

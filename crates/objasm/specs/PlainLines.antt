@@ -1,6 +1,7 @@
--- What stands in our grammar for a line of the dialect: each definition gives the text so far with what is put
--- after it.
-use Rattle.std.specs.Prelude.{◌==◌, ◌&&◌, ◌-◌, ◌^◌, not, nat_lt, ℕ, Bool, true, false, List, [], ◌∷◌, ◌++◌, decimal}
+-- What stands in our grammar for a line of the dialect: each definition gives the text so far with what is
+-- put after it.
+use Rattle.std.specs.Prelude.{◌==◌, ◌&&◌, ◌-◌, ◌^◌, not, nat_lt, ℕ, Bool, true, false, List, [], ◌∷◌, ◌++◌}
+use Rattle.std.specs.Prelude.{decimal}
 use Rattle.std.specs.Prelude.{codes, Option, Some, None, is_none, Result, Ok, Err, if◌then◌else◌}
 use Rattle.objasm.specs.Exchanges.{exchange_of, exchanged_word, flipped}
 use Rattle.objasm.specs.Names.{Meanings, and_then, is_set, mapped}

@@ -34,7 +34,8 @@ put_line m text done = mapped (λ t. (t ++ comment text) ++ 10 ∷ []) (put_body
 -- ## All lines
 
 -- the fault of a line with its number
-abbrev pub at_line : {A B : Type 0} → ℕ → Result A LineFault → (A → Result B (LineFault × ℕ)) → Result B (LineFault × ℕ)
+abbrev pub at_line : {A B : Type 0} → ℕ → Result A LineFault → (A → Result B (LineFault × ℕ))
+    → Result B (LineFault × ℕ)
 at_line n (Ok a) f = f a
 at_line n (Err fault) f = Err (fault, n)
 

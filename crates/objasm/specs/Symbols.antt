@@ -11,10 +11,12 @@ use Rattle.objasm.specs.Numerals.{read_numeral}
 use Rattle.objasm.specs.Parts.{Part, Run, Byte}
 use Rattle.objasm.specs.declared.faults.LineFault.{LineFault}
 use Rattle.objasm.specs.declared.faults.LineFault.TheVariants.{BadExpression, BadNumber, NameMissing}
-use Rattle.objasm.specs.declared.operators.Binary.TheVariants.{Times, Over, Mod, Shl, Shr, Rol, Ror, Plus, Minus}
+use Rattle.objasm.specs.declared.operators.Binary.TheVariants.{Times, Over, Mod, Shl, Shr, Rol, Ror, Plus}
+use Rattle.objasm.specs.declared.operators.Binary.TheVariants.{Minus}
 use Rattle.objasm.specs.declared.operators.Binary.TheVariants.{And, Or, Eor}
 use Rattle.objasm.specs.declared.symbols.Reading.{Reading}
-use Rattle.objasm.specs.declared.symbols.Reading.TheVariants.{Ready, Hex, Less, Greater, Colon, Named, Quote, Quoted}
+use Rattle.objasm.specs.declared.symbols.Reading.TheVariants.{Ready, Hex, Less, Greater, Colon, Named}
+use Rattle.objasm.specs.declared.symbols.Reading.TheVariants.{Quote, Quoted}
 use Rattle.objasm.specs.declared.symbols.Symbol.{Symbol}
 use Rattle.objasm.specs.declared.symbols.Symbol.TheVariants.{Number, Operator, Not, Open, Close}
 

@@ -3,9 +3,12 @@
 ghost use Rattle.std.specs.Prelude.{◌≡◌, ◌++◌, OnOk, IfErr, Ok, decimal, map};
 ghost use Rattle.objasm.specs.Names.{Told, meanings_of};
 ghost use Rattle.objasm.specs.Parts.{part_of};
-ghost use Rattle.objasm.specs.PlainLines.{is_label, is_label_field, is_over, kind_with, offset_text, part_text};
-ghost use Rattle.objasm.specs.PlainLines.{put_body, put_field, put_instruction, put_operands, put_plain, put_statement};
-ghost use Rattle.objasm.specs.PlainLines.{put_stop, put_stops, put_value, put_word, register_text, run_text, with_parts};
+ghost use Rattle.objasm.specs.PlainLines.{is_label, is_label_field, is_over, kind_with, offset_text};
+ghost use Rattle.objasm.specs.PlainLines.{part_text};
+ghost use Rattle.objasm.specs.PlainLines.{put_body, put_field, put_instruction, put_operands, put_plain};
+ghost use Rattle.objasm.specs.PlainLines.{put_statement};
+ghost use Rattle.objasm.specs.PlainLines.{put_stop, put_stops, put_value, put_word, register_text};
+ghost use Rattle.objasm.specs.PlainLines.{run_text, with_parts};
 ghost use Rattle.objasm.specs.PlainLines.{word_with, written};
 ghost use Rattle.objasm.specs.Words.{word_text};
 

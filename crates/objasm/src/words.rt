@@ -1,7 +1,8 @@
 //! The words of ObjAsm that have a meaning of their own.
 
 ghost use Rattle.std.specs.Prelude.{◌≡◌, ◌++◌, OnOk, map};
-ghost use Rattle.objasm.specs.Words.{cond_place, is_directive, is_nop, is_one_of, kind_of, known_cond, word_text};
+ghost use Rattle.objasm.specs.Words.{cond_place, is_directive, is_nop, is_one_of, kind_of, known_cond};
+ghost use Rattle.objasm.specs.Words.{word_text};
 
 use crate::exchanges::Flip;
 use std::alloc::AllocError;
