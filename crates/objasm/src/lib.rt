@@ -1,4 +1,13 @@
 //! Sources in the dialect of Acorn's assembler ObjAsm, in our grammar.
+//!
+//! Each line stands for one of ours, whose number is the same: a line that sets a name for an empty one. The
+//! text is gone through twice, first for the names and then for what stands for each line, so a name may be
+//! used above the line that sets it, but not in a line that itself sets a name. What no definition names is
+//! left as it stands, and `assembler` judges it; directives that are not known are refused here.
+//!
+//! No ObjAsm was at hand. The levels of operators follow its manual; that `/`, `:MOD:` and `:SHR:` know no
+//! sign, and that a shift by 32 or more gives 0, are choices of our own. `specs/Expressions.antt` says what an
+//! expression is, and `expressions_are_evaluated` that exactly these are read, and to their values.
 #![tactic(auto)]
 
 mod evaluation;
