@@ -8,6 +8,7 @@ ANY, SOURCES, IMAGES = "Any command", "Sources, with the line", "Images"
 STATEMENTS, GRAPH, LOOPS, PATH = "Statements", "The graph", "Loops", "The path"
 VISITS, MACHINES, PROFILES, CERTIFICATES = "Visits", "Machine files", "Cycle profiles", "Certificates"
 DRAFTS, EDGES, RESPONSES, FACTS = "Drafts", "Edges", "Response times", "Files of facts"
+DIALECT = "Sources for ObjAsm, with the line"
 
 OF_SOURCE = (ANY, SOURCES, IMAGES)
 OF_HANDLER = (*OF_SOURCE, PROFILES, STATEMENTS, GRAPH, LOOPS)
@@ -16,6 +17,7 @@ OF_HANDLER = (*OF_SOURCE, PROFILES, STATEMENTS, GRAPH, LOOPS)
 MET_BY = {
     "asm": OF_SOURCE,
     "list": OF_SOURCE,
+    "plain": (ANY, DIALECT),
     "draft": (*OF_SOURCE, DRAFTS, STATEMENTS),
     "bound": (*OF_HANDLER, PATH, EDGES),
     "explain": (*OF_HANDLER, PATH, CERTIFICATES),

@@ -170,7 +170,7 @@ def commands(bench):
     found = []
     for source, first in (("handler.s", SOURCE), ("handler.image", image)):
         files = {source: first}
-        lines = (f"asm {source} made.image", f"list {source}", f"draft {source} 0x8000")
+        lines = (f"asm {source} made.image", f"list {source}", f"plain {source}", f"draft {source} 0x8000")
         found += [command(bench, it, files) for it in lines]
         found.append(command(bench, f"draft {source} begun.toml", {**files, "begun.toml": BEGUN}))
         for option in ("", "--profile profile.toml "):

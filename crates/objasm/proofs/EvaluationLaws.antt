@@ -1,10 +1,10 @@
 -- What waits on a stack, and the symbols from an index on.
-use Rattle.std.proofs.Common.{◌≡◌, ◌+◌, ◌<◌, ◌≤◌, ℕ, Bool, true, false, cond, List, [], ◌∷◌, ◌++◌, length, drop, get_or, reverse, Option, Some, None, refl, sym, ap, ◌∙◌, arith}
+use Rattle.std.proofs.Common.{◌≡◌, ◌+◌, ◌<◌, ◌≤◌, ℕ, true, false, List, [], ◌∷◌, ◌++◌, length, drop, get_or, reverse, Option, Some, None, refl, sym, ap, ◌∙◌, arith}
 use Rattle.std.specs.Prelude.{IsSome, option_to_list}
 use Rattle.std.specs.Option.{option_and_then, option_map}
 use Rattle.std.proofs.lemmas.List.{drop_all, drop_more, reverse-append}
 use Rattle.std.proofs.lemmas.Option.{same_Some}
-use Rattle.objasm.specs.Evaluation.{evaluated, finished, first, is_ready, reduced, released, run, step}
+use Rattle.objasm.specs.Evaluation.{finished, first, is_ready, reduced, released, run, step}
 use Rattle.objasm.specs.declared.evaluation.Waiting.{Waiting}
 use Rattle.objasm.specs.declared.evaluation.Place.{Place}
 use Rattle.objasm.specs.declared.symbols.Symbol.{Symbol}

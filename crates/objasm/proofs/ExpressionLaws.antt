@@ -1,18 +1,18 @@
 -- The symbols of an expression are read to its value.
-use Rattle.std.proofs.Common.{◌≡◌, ◌+◌, ◌<◌, ◌≤◌, ℕ, zero, suc, Bool, true, false, cond, List, [], ◌∷◌, ◌++◌, Option, Some, None, refl, sym, ap, ◌∙◌, append_assoc, inl, inr, arith}
+use Rattle.std.proofs.Common.{◌≡◌, ℕ, true, false, List, [], ◌∷◌, ◌++◌, Option, Some, refl, sym, ap, ◌∙◌, append_assoc, arith}
 use Rattle.std.specs.Prelude.{nat_le, nat_lt}
 use Rattle.std.specs.Option.{option_and_then}
 use Rattle.std.proofs.lemmas.Bool.Decides.{nat_tests}
 use Rattle.std.proofs.lemmas.List.{append-nil}
-use Rattle.objasm.specs.Evaluation.{closed, evaluated, ended, finished, is_ready, operator, reduced, released, run, step}
-use Rattle.objasm.specs.Expressions.{Expression, Lone, Group, Applied, Between, IsGrouped, Spells, applied, between, outer_level, symbols_of, unary_symbol, value}
+use Rattle.objasm.specs.Evaluation.{closed, evaluated, ended, is_ready, reduced, released, run}
+use Rattle.objasm.specs.Expressions.{Expression, Lone, Group, Applied, Between, IsGrouped, Spells, outer_level, symbols_of, unary_symbol, value}
 use Rattle.objasm.specs.Operators.{level}
 use Rattle.objasm.specs.declared.evaluation.Place.{Place}
 use Rattle.objasm.specs.declared.evaluation.Place.TheVariants.{Expects, Has}
 use Rattle.objasm.specs.declared.evaluation.Waiting.{Waiting}
 use Rattle.objasm.specs.declared.evaluation.Waiting.TheVariants as waits
 use Rattle.objasm.specs.declared.operators.Binary.{Binary}
-use Rattle.objasm.specs.declared.operators.Binary.TheVariants.{Times, Over, Mod, Shl, Shr, Rol, Ror, Plus, Minus, And, Or, Eor}
+use Rattle.objasm.specs.declared.operators.Binary.TheVariants.{Times}
 use Rattle.objasm.specs.declared.operators.Unary.{Unary}
 use Rattle.objasm.specs.declared.operators.Unary.TheVariants.{Keep, Negate, Invert}
 use Rattle.objasm.specs.declared.symbols.Symbol.{Symbol}

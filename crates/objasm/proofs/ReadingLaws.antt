@@ -1,13 +1,13 @@
 -- Symbols that are read to a value spell an expression of that value.
-use Rattle.std.proofs.Common.{◌≡◌, ◌+◌, ◌<◌, ◌≤◌, ℕ, Bool, true, false, cond, List, [], ◌∷◌, ◌++◌, map, Option, Some, None, refl, sym, ap, ◌∙◌, append_assoc, inl, inr, arith}
+use Rattle.std.proofs.Common.{◌≡◌, ℕ, Bool, true, false, List, [], ◌∷◌, ◌++◌, map, Option, Some, refl, sym, ap, ◌∙◌, append_assoc, inl, inr, arith}
 use Rattle.std.specs.Prelude.{nat_le, nat_lt}
 use Rattle.std.specs.Option.{option_and_then}
 use Rattle.std.proofs.lemmas.Bool.{cases_Bool}
 use Rattle.std.proofs.lemmas.Bool.Decides.{nat_tests}
 use Rattle.std.proofs.lemmas.List.{append-nil}
 use Rattle.std.proofs.lemmas.Option.{same_Some}
-use Rattle.objasm.specs.Evaluation.{closed, evaluated, ended, is_ready, reduced, released, run}
-use Rattle.objasm.specs.Expressions.{Expression, Lone, Group, Applied, Between, IsGrouped, Spells, applied, between, outer_level, symbols_of, unary_symbol, value}
+use Rattle.objasm.specs.Evaluation.{closed, evaluated, ended, reduced, run}
+use Rattle.objasm.specs.Expressions.{Expression, Lone, Group, Applied, Between, IsGrouped, Spells, outer_level, symbols_of, unary_symbol, value}
 use Rattle.objasm.specs.Operators.{level}
 use Rattle.objasm.specs.declared.evaluation.Place.{Place}
 use Rattle.objasm.specs.declared.evaluation.Place.TheVariants.{Expects, Has}

@@ -1,12 +1,12 @@
 -- Words that are exchanged where a number fits as a rotated byte only the other way.
-use Rattle.std.specs.Prelude.{ℕ, zero, suc, ◌+◌, ◌-◌, ◌*◌, ◌%◌, ◌^◌, ◌==◌, ◌&&◌, ◌||◌, not, nat_lt, Bool, false}
+use Rattle.std.specs.Prelude.{ℕ, zero, suc, ◌-◌, ◌*◌, ◌%◌, ◌^◌, ◌==◌, ◌&&◌, ◌||◌, not, nat_lt, Bool, false}
 use Rattle.std.specs.Prelude.{List, [], ◌∷◌, ◌++◌, codes, length, take, drop, Option, Some, None}
 use Rattle.std.specs.Prelude.{Result, Ok, if◌then◌else◌}
 use Rattle.std.specs.Int.{w32, rotate_left}
 use Rattle.std.specs.Option.{option_or}
 use Rattle.std.specs.Str.{bytes_eq}
 use Rattle.objasm.specs.Names.{Meanings, mapped}
-use Rattle.objasm.specs.Parts.{Part, Run, Byte, after_blanks, first_field}
+use Rattle.objasm.specs.Parts.{Part, Byte, after_blanks, first_field}
 use Rattle.objasm.specs.Settings.{value_of}
 use Rattle.objasm.specs.Words.{is_one_of}
 use Rattle.objasm.specs.declared.exchanges.Flip.{Flip}
@@ -88,7 +88,8 @@ immediate_in [] = None
 immediate_in (p ∷ ps) = option_or (immediate_at (p ∷ ps)) (immediate_in ps)
 
 abbrev pub exchange_by : Meanings → Option Flip → Option (List Part) → Result (Option Flip) LineFault
-exchange_by m (Some flip) (Some field) = mapped (λ n. if is_needed flip n then Some flip else None) (value_of m field)
+exchange_by m (Some flip) (Some field) =
+    mapped (λ n. if is_needed flip n then Some flip else None) (value_of m field)
 exchange_by m _ _ = Ok None
 
 -- how the number of an instruction is changed together with its word, if it is

@@ -1,5 +1,5 @@
 -- Expressions as trees, how a tree is written, and its value.
-use Rattle.std.specs.Prelude.{◌≡◌, ◌&&◌, ℕ, nat_lt, nat_le, Bool, true, List, [], ◌∷◌, ◌++◌, Option, Some, None}
+use Rattle.std.specs.Prelude.{◌≡◌, ℕ, nat_lt, nat_le, true, List, [], ◌∷◌, ◌++◌, Option, Some, None}
 use Rattle.objasm.specs.Operators.{binary_value, level, unary_value}
 use Rattle.objasm.specs.declared.operators.Binary.{Binary}
 use Rattle.objasm.specs.declared.operators.Binary.TheVariants.{Plus, Minus}

@@ -3,7 +3,7 @@ use Rattle.std.specs.Prelude.{ℕ, List, codes}
 use Rattle.objasm.specs.declared.faults.LineFault.{LineFault}
 use Rattle.objasm.specs.declared.faults.LineFault.TheVariants.{Memory, UnknownDirective, BadName, NameTwice}
 use Rattle.objasm.specs.declared.faults.LineFault.TheVariants.{NameMissing, BadExpression, BadNumber}
-use Rattle.objasm.specs.declared.faults.LineFault.TheVariants.{DivisionByZero, BadRegister}
+use Rattle.objasm.specs.declared.faults.LineFault.TheVariants.{NoValue, BadRegister}
 
 abbrev pub name : LineFault → List ℕ
 name Memory = codes "Memory"
@@ -13,5 +13,5 @@ name NameTwice = codes "NameTwice"
 name NameMissing = codes "NameMissing"
 name BadExpression = codes "BadExpression"
 name BadNumber = codes "BadNumber"
-name DivisionByZero = codes "DivisionByZero"
+name NoValue = codes "NoValue"
 name BadRegister = codes "BadRegister"

@@ -8,4 +8,5 @@ use Rattle.objasm.specs.declared.symbols.Symbol.{Symbol}
 abbrev pub ExpressionsAreEvaluated : Type 0
 ExpressionsAreEvaluated =
     ((ss : List Symbol) (e : Expression) → Spells ss e → evaluated ss ≡ Some (value e))
-    × ((ss : List Symbol) (v : Option ℕ) → evaluated ss ≡ Some v → (e : Expression) × Spells ss e × (value e ≡ v))
+    × ((ss : List Symbol) (v : Option ℕ) → evaluated ss ≡ Some v
+    → (e : Expression) × Spells ss e × (value e ≡ v))

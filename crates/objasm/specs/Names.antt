@@ -1,5 +1,5 @@
 -- What names mean: which are set for numbers, and which for registers.
-use Rattle.std.specs.Prelude.{◌≡◌, ◌||◌, ◌⊎◌, ℕ, Bool, List, Option, Some, is_some, Result, Ok, Err, if◌then◌else◌}
+use Rattle.std.specs.Prelude.{◌≡◌, ◌||◌, ◌⊎◌, ℕ, Bool, List, Some, is_some, Result, Ok, Err, if◌then◌else◌}
 use Rattle.std.specs.Str.{bytes_eq}
 use Rattle.image.specs.Labels.{Names, no_names, address_of}
 use Rattle.objasm.specs.declared.faults.LineFault.{LineFault}

@@ -1,5 +1,5 @@
 -- Numbers with a base: its digit, a `_` and digits.
-use Rattle.std.specs.Prelude.{ℕ, ◌-◌, ◌==◌, nat_lt, List, [], ◌∷◌, Option, None, if◌then◌else◌}
+use Rattle.std.specs.Prelude.{ℕ, ◌-◌, ◌==◌, nat_lt, List, ◌∷◌, Option, None, if◌then◌else◌}
 use Rattle.asm_text.specs.Numbers.{number_by, read_number}
 
 -- the digit of a base is 2 to 9

@@ -1,13 +1,14 @@
--- What stands in our grammar for a line of the dialect: each definition gives the text so far with what is put
--- after it.
-use Rattle.std.specs.Prelude.{◌==◌, ◌&&◌, ◌-◌, ◌^◌, not, nat_lt, ℕ, Bool, true, false, List, [], ◌∷◌, ◌++◌, decimal}
-use Rattle.std.specs.Prelude.{Option, Some, None, is_none, Result, Ok, Err, if◌then◌else◌}
+-- What stands in our grammar for a line of the dialect: each definition gives the text so far with what is
+-- put after it.
+use Rattle.std.specs.Prelude.{◌==◌, ◌&&◌, ◌-◌, ◌^◌, not, nat_lt, ℕ, Bool, true, false, List, [], ◌∷◌, ◌++◌}
+use Rattle.std.specs.Prelude.{decimal}
+use Rattle.std.specs.Prelude.{codes, Option, Some, None, is_none, Result, Ok, Err, if◌then◌else◌}
 use Rattle.objasm.specs.Exchanges.{exchange_of, exchanged_word, flipped}
 use Rattle.objasm.specs.Names.{Meanings, and_then, is_set, mapped}
 use Rattle.objasm.specs.Parts.{Part, Run, Byte, after_blanks, first_field, front_blanks, is_stop}
 use Rattle.objasm.specs.Settings.{Setting, setting_of, value_of}
 use Rattle.objasm.specs.Symbols.{begins_number}
-use Rattle.objasm.specs.Words.{is_directive, kind_of, word_text}
+use Rattle.objasm.specs.Words.{is_directive, is_nop, kind_of, word_text}
 use Rattle.objasm.specs.declared.exchanges.Flip.{Flip}
 use Rattle.objasm.specs.declared.faults.LineFault.{LineFault}
 use Rattle.objasm.specs.declared.faults.LineFault.TheVariants.{NameTwice, UnknownDirective}
@@ -29,17 +30,13 @@ register_text n = 82 ∷ decimal n
 abbrev pub offset_text : ℕ → List ℕ
 offset_text n = if nat_lt n (2 ^ 31) then decimal n else 45 ∷ decimal (2 ^ 32 - n)
 
-abbrev pub constant_text : List ℕ → Option ℕ → List ℕ
-constant_text run (Some n) = decimal n
-constant_text run None = run
+abbrev pub run_by : List ℕ → Option ℕ → List ℕ
+run_by run (Some n) = register_text n
+run_by run None = run
 
-abbrev pub run_by : List ℕ → Option ℕ → Option ℕ → List ℕ
-run_by run (Some n) constant = register_text n
-run_by run None constant = constant_text run constant
-
--- a register for the name of one, a number for the name of one, and else the run itself
+-- a register for the name of one, and else the run itself: constants are numbers in expressions alone
 abbrev pub run_text : Meanings → List ℕ → List ℕ
-run_text m run = run_by run (m.registers run) (m.constants run)
+run_text m run = run_by run (m.registers run)
 
 abbrev pub part_text : Meanings → Part → List ℕ
 part_text m (Run r) = run_text m r
@@ -118,7 +115,8 @@ put_exchanged m word ps done exchange =
 -- a word and its operands, which are exchanged for others where the number fits only so
 abbrev pub put_instruction : Meanings → List ℕ → List Part → List ℕ → Text
 put_instruction m word ps done =
-    if is_directive word then Err UnknownDirective
+    if is_nop word then Ok (with_parts m ps (done ++ codes "MOV R0,R0"))
+    else if is_directive word then Err UnknownDirective
     else and_then (put_exchanged m word ps done) (exchange_of m word ps)
 
 abbrev pub put_word : Meanings → List Part → List ℕ → Text

@@ -1,5 +1,6 @@
 -- What the lines of a source set: a name, once, for a number or a register.
-use Rattle.std.specs.Prelude.{◌==◌, ◌||◌, ℕ, Bool, List, [], ◌∷◌, codes, map, nat_lt, Option, Some, None, is_some}
+use Rattle.std.specs.Prelude.{◌==◌, ◌||◌, ℕ, Bool, List, [], ◌∷◌, codes, map, nat_lt, Option, Some, None}
+use Rattle.std.specs.Prelude.{is_some}
 use Rattle.std.specs.Prelude.{option_map, Result, Ok, Err, if◌then◌else◌}
 use Rattle.std.specs.Str.{bytes_eq}
 use Rattle.asm_text.specs.Registers.{register_of}
@@ -8,7 +9,8 @@ use Rattle.objasm.specs.Names.{Meanings, and_then, is_set, mapped, with_meaning}
 use Rattle.objasm.specs.Parts.{Part, Run, Byte, after_blanks, part_of}
 use Rattle.objasm.specs.Symbols.{begins_number, symbols_in}
 use Rattle.objasm.specs.declared.faults.LineFault.{LineFault}
-use Rattle.objasm.specs.declared.faults.LineFault.TheVariants.{BadExpression, DivisionByZero, BadName, NameTwice}
+use Rattle.objasm.specs.declared.faults.LineFault.TheVariants.{BadExpression, NoValue, BadName}
+use Rattle.objasm.specs.declared.faults.LineFault.TheVariants.{NameTwice}
 use Rattle.objasm.specs.declared.faults.LineFault.TheVariants.{BadRegister}
 use Rattle.objasm.specs.declared.names.Kind.{Kind}
 use Rattle.objasm.specs.declared.names.Kind.TheVariants.{Constant, Register}
@@ -17,7 +19,7 @@ use Rattle.objasm.specs.declared.symbols.Reading.TheVariants.{Ready}
 
 abbrev pub outcome : Option (Option ℕ) → Result ℕ LineFault
 outcome (Some (Some n)) = Ok n
-outcome (Some None) = Err DivisionByZero
+outcome (Some None) = Err NoValue
 outcome None = Err BadExpression
 
 -- the value of the expression that parts are

@@ -1,10 +1,10 @@
 -- A whole source: the names that its lines set, and what stands for each of its lines.
-use Rattle.std.specs.Prelude.{◌≡◌, ◌==◌, ◌+◌, not, ℕ, List, [], ◌∷◌, ◌++◌, codes, length, take, Result, Ok, Err}
+use Rattle.std.specs.Prelude.{◌≡◌, ◌==◌, ◌+◌, not, ℕ, List, [], ◌∷◌, ◌++◌, codes, take, Result, Ok, Err}
 use Rattle.std.specs.Prelude.{if◌then◌else◌}
 use Rattle.std.specs.List.{prefix_len}
 use Rattle.std.specs.Str.{bytes_eq}
 use Rattle.asm_text.specs.Source.{lines_of}
-use Rattle.objasm.specs.Names.{Meanings, and_then, mapped, no_meanings}
+use Rattle.objasm.specs.Names.{Meanings, mapped, no_meanings}
 use Rattle.objasm.specs.Parts.{parts}
 use Rattle.objasm.specs.PlainLines.{put_body}
 use Rattle.objasm.specs.Settings.{settled}
@@ -16,7 +16,7 @@ use Rattle.objasm.specs.declared.source.PlainSource.{PlainSource}
 
 -- ## A line
 
--- a comment begins at the first `;`
+-- a comment begins at the first `;`, also inside of quotes
 abbrev pub body_len : List ℕ → ℕ
 body_len text = prefix_len (λ b. not (b == 59)) text
 
@@ -38,7 +38,8 @@ put_line m text done =
 -- ## All lines
 
 -- the fault of a line with its number
-abbrev pub at_line : {A B : Type 0} → ℕ → Result A LineFault → (A → Result B (LineFault × ℕ)) → Result B (LineFault × ℕ)
+abbrev pub at_line : {A B : Type 0} → ℕ → Result A LineFault → (A → Result B (LineFault × ℕ))
+    → Result B (LineFault × ℕ)
 at_line n (Ok a) f = f a
 at_line n (Err fault) f = Err (fault, n)
 
@@ -71,7 +72,7 @@ abbrev pub then_lines : Result Meanings (LineFault × ℕ) → List (List ℕ) �
 then_lines (Ok m) ls = put_lines m 1 ls no_lines
 then_lines (Err fault) ls = Err fault
 
--- what all lines set is known in each of them
+-- what all lines set is known in each that sets nothing
 abbrev pub translated : List ℕ → Result Plain (LineFault × ℕ)
 translated source = then_lines (settings no_meanings 1 (lines_of source)) (lines_of source)
 

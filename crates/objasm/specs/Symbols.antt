@@ -1,5 +1,5 @@
 -- How symbols are written: parts, of which a symbol has one or more.
-use Rattle.std.specs.Prelude.{◌==◌, ◌||◌, ◌++◌, ℕ, Bool, false, List, [], ◌∷◌, codes, Option, Some, None}
+use Rattle.std.specs.Prelude.{◌==◌, ◌||◌, ℕ, Bool, false, List, [], ◌∷◌, codes, Option, Some, None}
 use Rattle.std.specs.Prelude.{Result, Ok, Err, if◌then◌else◌}
 use Rattle.std.specs.Char.{is_ascii_digit}
 use Rattle.std.specs.List.{cons_option}
@@ -11,10 +11,12 @@ use Rattle.objasm.specs.Numerals.{read_numeral}
 use Rattle.objasm.specs.Parts.{Part, Run, Byte}
 use Rattle.objasm.specs.declared.faults.LineFault.{LineFault}
 use Rattle.objasm.specs.declared.faults.LineFault.TheVariants.{BadExpression, BadNumber, NameMissing}
-use Rattle.objasm.specs.declared.operators.Binary.TheVariants.{Times, Over, Mod, Shl, Shr, Rol, Ror, Plus, Minus}
+use Rattle.objasm.specs.declared.operators.Binary.TheVariants.{Times, Over, Mod, Shl, Shr, Rol, Ror, Plus}
+use Rattle.objasm.specs.declared.operators.Binary.TheVariants.{Minus}
 use Rattle.objasm.specs.declared.operators.Binary.TheVariants.{And, Or, Eor}
 use Rattle.objasm.specs.declared.symbols.Reading.{Reading}
-use Rattle.objasm.specs.declared.symbols.Reading.TheVariants.{Ready, Hex, Less, Greater, Colon, Named, Quote, Quoted}
+use Rattle.objasm.specs.declared.symbols.Reading.TheVariants.{Ready, Hex, Less, Greater, Colon, Named}
+use Rattle.objasm.specs.declared.symbols.Reading.TheVariants.{Quote, Quoted}
 use Rattle.objasm.specs.declared.symbols.Symbol.{Symbol}
 use Rattle.objasm.specs.declared.symbols.Symbol.TheVariants.{Number, Operator, Not, Open, Close}
 

@@ -1,5 +1,6 @@
 -- The words of ObjAsm that have a meaning of their own.
-use Rattle.std.specs.Prelude.{ℕ, ◌+◌, ◌==◌, nat_lt, Bool, List, [], ◌∷◌, ◌++◌, codes, length, take, drop}
+use Rattle.std.specs.Prelude.{ℕ, ◌+◌, ◌==◌, ◌||◌, nat_lt, Bool, List, [], ◌∷◌, ◌++◌, codes, length, take}
+use Rattle.std.specs.Prelude.{drop}
 use Rattle.std.specs.Prelude.{if◌then◌else◌}
 use Rattle.std.specs.List.{list_any}
 use Rattle.std.specs.Str.{bytes_eq}
@@ -18,12 +19,15 @@ directives =
     ∷ codes "EXPORT" ∷ codes "FN" ∷ codes "GBLA" ∷ codes "GBLL" ∷ codes "GBLS" ∷ codes "GET"
     ∷ codes "GLOBAL" ∷ codes "IF" ∷ codes "IMPORT" ∷ codes "INCBIN" ∷ codes "INCLUDE" ∷ codes "INFO"
     ∷ codes "KEEP" ∷ codes "LCLA" ∷ codes "LCLL" ∷ codes "LCLS" ∷ codes "LEAF" ∷ codes "LIB" ∷ codes "LNK"
-    ∷ codes "LTORG" ∷ codes "MACRO" ∷ codes "MEND" ∷ codes "MEXIT" ∷ codes "NOFP" ∷ codes "NOP"
+    ∷ codes "LTORG" ∷ codes "MACRO" ∷ codes "MEND" ∷ codes "MEXIT" ∷ codes "NOFP"
     ∷ codes "OPT" ∷ codes "RLIST" ∷ codes "RN" ∷ codes "ROUT" ∷ codes "SETA" ∷ codes "SETL" ∷ codes "SETS"
     ∷ codes "SPACE" ∷ codes "STRONG" ∷ codes "SUBT" ∷ codes "TTL" ∷ codes "WEND" ∷ codes "WHILE" ∷ []
 
 abbrev pub is_directive : List ℕ → Bool
 is_directive word = is_one_of directives word
+
+abbrev pub is_nop : List ℕ → Bool
+is_nop word = bytes_eq word (codes "NOP") || bytes_eq word (codes "nop")
 
 abbrev pub value_words : List (List ℕ)
 value_words =

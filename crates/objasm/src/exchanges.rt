@@ -1,7 +1,8 @@
 //! Words that are exchanged where a number fits as a rotated byte only the other way.
 
 ghost use Rattle.std.specs.Prelude.{◌≡◌, ◌≤◌, IfOk, IfErr, Ok, drop, length, map, option_map};
-ghost use Rattle.objasm.specs.Exchanges.{after_hash, exchange_by, exchange_of, exchanged_word, flip_of, flipped};
+ghost use Rattle.objasm.specs.Exchanges.{after_hash, exchange_by, exchange_of, exchanged_word, flip_of};
+ghost use Rattle.objasm.specs.Exchanges.{flipped};
 ghost use Rattle.objasm.specs.Exchanges.{immediate_at, immediate_in, is_needed, is_rotated, other_head};
 ghost use Rattle.objasm.specs.Names.{Told, meanings_of};
 ghost use Rattle.objasm.specs.Parts.{part_of};

@@ -11,7 +11,7 @@ pub enum LineFault {
     /// An allocation failed.
     #[error("Memory")]
     Memory,
-    /// A directive of ObjAsm that is not translated, or no word where one stands.
+    /// A directive of ObjAsm that is not translated, or a sign where a word stands.
     #[error("UnknownDirective")]
     UnknownDirective,
     /// What is to be set begins with a digit or is the name of a register.
@@ -29,9 +29,9 @@ pub enum LineFault {
     /// Digits that are no number below 2^32.
     #[error("BadNumber")]
     BadNumber,
-    /// A division by 0.
-    #[error("DivisionByZero")]
-    DivisionByZero,
+    /// A division by 0 or with a number of 2^31 or more, or a shift by 32 places or more.
+    #[error("NoValue")]
+    NoValue,
     /// A register of a number above 15.
     #[error("BadRegister")]
     BadRegister,
@@ -66,7 +66,7 @@ impl LineFault {
             LineFault::NameMissing => b"NameMissing",
             LineFault::BadExpression => b"BadExpression",
             LineFault::BadNumber => b"BadNumber",
-            LineFault::DivisionByZero => b"DivisionByZero",
+            LineFault::NoValue => b"NoValue",
             LineFault::BadRegister => b"BadRegister",
         }
     }

@@ -1,4 +1,14 @@
 //! Sources in the dialect of Acorn's assembler ObjAsm, in our grammar.
+//!
+//! Each line stands for one of ours, whose number is the same: a line that sets a name for a comment. The
+//! text is gone through twice, first for the names and then for what stands for each line, so a name may be
+//! used above the line that sets it, but not in a line that itself sets a name. What no definition names is
+//! left as it stands, and `assembler` judges it; directives that are not known are refused here.
+//!
+//! No ObjAsm was at hand. The levels of operators follow its manual; what it would give for a division with a
+//! number of 2^31 or more, and for a shift by 32 places or more, was not known, so these are refused.
+//! `specs/Expressions.antt` says what an expression is, and `expressions_are_evaluated` that exactly these are
+//! read, and to their values.
 #![tactic(auto)]
 
 mod evaluation;

@@ -1,5 +1,6 @@
 ghost use Rattle.std.specs.Prelude.{◌≡◌};
-ghost use Rattle.objasm.specs.Operators.{binary_value, level, shl, shr, unary_value};
+ghost use Rattle.objasm.specs.Operators.{binary_value, divides, level, quotient, remainder, shl, shr};
+ghost use Rattle.objasm.specs.Operators.{unary_value};
 
 /// An operator between two values.
 #[derive(Clone, Copy)]
@@ -63,28 +64,48 @@ pub(crate) fn unary_value(operator: Unary, a: u32) -> u32
     }
 }
 
-fn shl(a: u32, b: u32) -> u32
+fn shl(a: u32, b: u32) -> Option<u32>
     ensures { result ≡ shl a b }
 {
-    if b < 32 { a << b } else { 0 }
+    if b < 32 { Some(a << b) } else { None }
 }
 
-fn shr(a: u32, b: u32) -> u32
+fn shr(a: u32, b: u32) -> Option<u32>
     ensures { result ≡ shr a b }
 {
-    if b < 32 { a >> b } else { 0 }
+    if b < 32 { Some(a >> b) } else { None }
 }
 
-/// The value of an operator between two values, or none for a division by 0.
+// Whether numbers with and without a sign are divided alike.
+fn divides(a: u32, b: u32) -> bool
+    ensures { result ≡ divides a b }
+{
+    a < 0x8000_0000 && b < 0x8000_0000 && b != 0
+}
+
+fn quotient(a: u32, b: u32) -> Option<u32>
+    ensures { result ≡ quotient a b }
+{
+    if divides(a, b) { Some(a / b) } else { None }
+}
+
+fn remainder(a: u32, b: u32) -> Option<u32>
+    ensures { result ≡ remainder a b }
+{
+    if divides(a, b) { Some(a % b) } else { None }
+}
+
+/// The value of an operator between two values, or none for a division by 0 or of a number that may have a
+/// sign, and for a shift by 32 places or more.
 pub(crate) fn binary_value(operator: Binary, a: u32, b: u32) -> Option<u32>
     ensures { result ≡ binary_value operator a b }
 {
     match operator {
         Binary::Times => Some(a.wrapping_mul(b)),
-        Binary::Over => a.checked_div(b),
-        Binary::Mod => a.checked_rem(b),
-        Binary::Shl => Some(shl(a, b)),
-        Binary::Shr => Some(shr(a, b)),
+        Binary::Over => quotient(a, b),
+        Binary::Mod => remainder(a, b),
+        Binary::Shl => shl(a, b),
+        Binary::Shr => shr(a, b),
         Binary::Rol => Some(a.rotate_left(b)),
         Binary::Ror => Some(a.rotate_right(b)),
         Binary::Plus => Some(a.wrapping_add(b)),

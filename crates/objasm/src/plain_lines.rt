@@ -3,9 +3,12 @@
 ghost use Rattle.std.specs.Prelude.{◌≡◌, ◌++◌, OnOk, IfErr, Ok, decimal, map};
 ghost use Rattle.objasm.specs.Names.{Told, meanings_of};
 ghost use Rattle.objasm.specs.Parts.{part_of};
-ghost use Rattle.objasm.specs.PlainLines.{is_label, is_label_field, is_over, kind_with, offset_text, part_text};
-ghost use Rattle.objasm.specs.PlainLines.{put_body, put_field, put_instruction, put_operands, put_plain, put_statement};
-ghost use Rattle.objasm.specs.PlainLines.{put_stop, put_stops, put_value, put_word, register_text, run_text, with_parts};
+ghost use Rattle.objasm.specs.PlainLines.{is_label, is_label_field, is_over, kind_with, offset_text};
+ghost use Rattle.objasm.specs.PlainLines.{part_text};
+ghost use Rattle.objasm.specs.PlainLines.{put_body, put_field, put_instruction, put_operands, put_plain};
+ghost use Rattle.objasm.specs.PlainLines.{put_statement};
+ghost use Rattle.objasm.specs.PlainLines.{put_stop, put_stops, put_value, put_word, register_text};
+ghost use Rattle.objasm.specs.PlainLines.{run_text, with_parts};
 ghost use Rattle.objasm.specs.PlainLines.{word_with, written};
 ghost use Rattle.objasm.specs.Words.{word_text};
 
@@ -15,7 +18,7 @@ use crate::names::Names;
 use crate::settings::{setting_of, value_of};
 use crate::symbols::begins_number;
 use crate::token::{Token, after_blanks, first_field, front_blanks, is_stop};
-use crate::words::{Operands, is_directive, kind_of, put_word_text};
+use crate::words::{Operands, is_directive, is_nop, kind_of, put_word_text};
 use itoa::Buffer;
 use std::alloc::{AllocError, Global};
 
@@ -79,11 +82,8 @@ fn put_register(out: &mut Vec<u8>, n: u32) -> Result<(), AllocError>
 fn put_run(names: &Names, run: &[u8], out: &mut Vec<u8>) -> Result<(), AllocError>
     ensures { OnOk result (out.new.items ≡ out.old.items ++ run_text (meanings_of names.now) run.now) }
 {
-    if let Some(n) = names.registers.get(run) {
-        return put_register(out, n);
-    }
-    match names.constants.get(run) {
-        Some(n) => put_number(out, n),
+    match names.registers.get(run) {
+        Some(n) => put_register(out, n),
         None => out.extend_from_slice(run),
     }
 }
@@ -300,6 +300,11 @@ fn put_instruction(
         (λ fault. Told fault
         (put_instruction (meanings_of names.now) word.now (map part_of tokens.now) out.old.items)) }
 {
+    if is_nop(word) {
+        out.extend_from_slice(b"MOV R0,R0")?;
+        put_parts(names, tokens, out)?;
+        return Ok(());
+    }
     if is_directive(word) {
         return Err(LineFault::UnknownDirective);
     }

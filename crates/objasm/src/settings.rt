@@ -30,7 +30,7 @@ fn outcome(found: Option<Option<u32>>) -> Result<u32, LineFault>
 {
     match found {
         Some(Some(n)) => Ok(n),
-        Some(None) => Err(LineFault::DivisionByZero),
+        Some(None) => Err(LineFault::NoValue),
         None => Err(LineFault::BadExpression),
     }
 }

@@ -1,7 +1,9 @@
 ghost use Rattle.std.specs.Prelude.{◌≡◌, ◌≤◌, ◌++◌, IfOk, IfErr, OnOk, Ok, length};
+ghost use Rattle.std.specs.List.{range_with_len};
 ghost use Rattle.asm_text.specs.Source.{lines_of};
 ghost use Rattle.objasm.specs.Names.{Told, meanings_of, no_meanings};
-ghost use Rattle.objasm.specs.Source.{FaultedAt, body_len, fault_at, line_settled, no_lines, plain_of, put_line};
+ghost use Rattle.objasm.specs.Source.{FaultedAt, body_len, fault_at, line_settled, no_lines, plain_of};
+ghost use Rattle.objasm.specs.Source.{put_line};
 ghost use Rattle.objasm.specs.Source.{put_lines, put_next, settings, shown_line, translated};
 ghost use Rattle.objasm.specs.declared.source.DialectFault.TheVariants.{Memory};
 
@@ -152,17 +154,27 @@ fn plain_with(alloc: Global, names: &Names, source: &[u8]) -> Result<PlainSource
     Ok(plain)
 }
 
-/// A text of the dialect in our grammar.
-///
-/// # Errors
-///
-/// The lines are gone through twice: first for the names that they set, and then for what stands for each. The
-/// first line at fault in the first pass is answered, else the first in the second. `Memory`: an allocation
-/// failed.
-pub fn plain_source(alloc: Global, source: &[u8]) -> Result<PlainSource, DialectFault>
+// The text of the definitions.
+fn translated(alloc: Global, source: &[u8]) -> Result<PlainSource, DialectFault>
     ensures ok { IfOk result (λ p. translated source.now ≡ Ok (plain_of p)) }
     ensures fault { IfErr result (λ fault. FaultedAt fault (translated source.now)) }
 {
     let names = names_of(alloc, source)?;
     plain_with(alloc, &names, source)
+}
+
+/// A text of the dialect in our grammar, with one line for each of its lines.
+///
+/// # Errors
+///
+/// The lines are gone through twice: first for the names that they set, and then for what stands for each.
+/// The first line at fault in the first pass is answered, else the first in the second. `Memory`: an
+/// allocation failed.
+pub fn plain_source(alloc: Global, source: &[u8]) -> Result<PlainSource, DialectFault>
+    ensures ok { IfOk result (λ p. translated source.now ≡ Ok (plain_of p)) }
+    ensures origins { IfOk result
+        (λ p. p.origins.items ≡ range_with_len 1 (length (lines_of source.now))) }
+    ensures fault { IfErr result (λ fault. FaultedAt fault (translated source.now)) }
+{
+    translated(alloc, source)
 }

@@ -2,7 +2,8 @@ ghost use Rattle.std.specs.Prelude.{◌≡◌, ◌++◌, [], IfOk, IfErr, OnOk, 
 ghost use Rattle.std.specs.List.{cons_option};
 ghost use Rattle.objasm.specs.Names.{Told, meanings_of};
 ghost use Rattle.objasm.specs.Parts.{part_of};
-ghost use Rattle.objasm.specs.Symbols.{after_byte, after_run, at_last, begins_number, number_of, operator_named};
+ghost use Rattle.objasm.specs.Symbols.{after_byte, after_run, at_last, begins_number, number_of};
+ghost use Rattle.objasm.specs.Symbols.{operator_named};
 ghost use Rattle.objasm.specs.Symbols.{quoted, reading_step, sign, symbols_in};
 ghost use Rattle.objasm.specs.declared.symbols.Reading.TheVariants.{Ready};
 

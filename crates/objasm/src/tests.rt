@@ -2,7 +2,7 @@ use crate::faults::LineFault;
 use crate::source::{DialectFault, plain_source};
 
 // Texts of the dialect, and what stands for them.
-const TEXTS: [(&[u8], &[u8]); 12] = [
+const TEXTS: [(&[u8], &[u8]); 14] = [
     (
         b"a EQU 1\n b\n MOV R0,#a+2*3\n",
         b" ; a EQU 1\n b\n MOV R0,#7 ;  MOV R0,#a+2*3\n",
@@ -47,18 +47,28 @@ const TEXTS: [(&[u8], &[u8]); 12] = [
         b" DCD 2_1010,9_17,0x1F,8_777\n",
         b" DCD 10,16,31,511 ;  DCD 2_1010,9_17,0x1F,8_777\n",
     ),
+    (
+        b"x NOP ; none\n nop\n",
+        b"x MOV R0,R0  ; x NOP ; none\n MOV R0,R0 ;  nop\n",
+    ),
+    (
+        b"A0 EQU 16\n B &A0\n LDR R1,A0\n",
+        b" ; A0 EQU 16\n B &A0\n LDR R1,A0\n",
+    ),
     (b"", b""),
 ];
 
 // Texts that are refused.
-const REFUSED: [(&[u8], LineFault, usize); 11] = [
+const REFUSED: [(&[u8], LineFault, usize); 13] = [
     (b" MOV R0,#1\n LTORG\n", LineFault::UnknownDirective, 2),
     (b" = 1,2\n", LineFault::UnknownDirective, 1),
     (b"a EQU 1\na * 2\n", LineFault::NameTwice, 2),
     (b"a EQU b\nb EQU 1\n", LineFault::NameMissing, 1),
     (b"R5 RN 6\n", LineFault::BadName, 1),
     (b"f RN 16\n", LineFault::BadRegister, 1),
-    (b" MOV R0,#1/0\n", LineFault::DivisionByZero, 1),
+    (b" MOV R0,#1/0\n", LineFault::NoValue, 1),
+    (b" MOV R0,#-8/2\n", LineFault::NoValue, 1),
+    (b"\n MOV R0,#1:SHL:32\n", LineFault::NoValue, 2),
     (b" MOV R0,#4294967296\n", LineFault::BadNumber, 1),
     (b" MOV R0,#2_12\n", LineFault::BadNumber, 1),
     (b" MOV R0,#(1\n", LineFault::BadExpression, 1),

@@ -1,7 +1,8 @@
 //! The words of ObjAsm that have a meaning of their own.
 
 ghost use Rattle.std.specs.Prelude.{◌≡◌, ◌++◌, OnOk, map};
-ghost use Rattle.objasm.specs.Words.{cond_place, is_directive, is_one_of, kind_of, known_cond, word_text};
+ghost use Rattle.objasm.specs.Words.{cond_place, is_directive, is_nop, is_one_of, kind_of, known_cond};
+ghost use Rattle.objasm.specs.Words.{word_text};
 
 use crate::exchanges::Flip;
 use std::alloc::AllocError;
@@ -23,13 +24,13 @@ const VALUE_WORDS: [&[u8]; 6] = [b"DCD", b"ORG", b"SWI", b"dcd", b"org", b"swi"]
 
 const OFFSET_WORDS: [&[u8]; 4] = [b"LDR", b"STR", b"ldr", b"str"];
 
-const DIRECTIVES: [&[u8]; 57] = [
+const DIRECTIVES: [&[u8]; 56] = [
     b"ADRL", b"ALIGN", b"AOF", b"AOUT", b"AREA", b"ASSERT", b"BIN", b"CN", b"CP", b"DATA", b"DCB",
     b"DCFD", b"DCFS", b"DCW", b"ELSE", b"END", b"ENDIF", b"ENTRY", b"EQU", b"EXPORT", b"FN",
     b"GBLA", b"GBLL", b"GBLS", b"GET", b"GLOBAL", b"IF", b"IMPORT", b"INCBIN", b"INCLUDE", b"INFO",
     b"KEEP", b"LCLA", b"LCLL", b"LCLS", b"LEAF", b"LIB", b"LNK", b"LTORG", b"MACRO", b"MEND",
-    b"MEXIT", b"NOFP", b"NOP", b"OPT", b"RLIST", b"RN", b"ROUT", b"SETA", b"SETL", b"SETS",
-    b"SPACE", b"STRONG", b"SUBT", b"TTL", b"WEND", b"WHILE",
+    b"MEXIT", b"NOFP", b"OPT", b"RLIST", b"RN", b"ROUT", b"SETA", b"SETL", b"SETS", b"SPACE",
+    b"STRONG", b"SUBT", b"TTL", b"WEND", b"WHILE",
 ];
 
 /// Whether a word is one of those.
@@ -94,6 +95,13 @@ fn cond_place(len: usize) -> usize
         4 => 2,
         _ => 3,
     }
+}
+
+/// Whether a word is NOP.
+pub(crate) fn is_nop(word: &[u8]) -> bool
+    ensures { result ≡ is_nop word.now }
+{
+    word == b"NOP".as_slice() || word == b"nop".as_slice()
 }
 
 /// Puts a word as our grammar has it.

@@ -1,6 +1,6 @@
 use Rattle.std.proofs.Common.{◌∙◌, ap, sym, reverse, length, arith}
 use Rattle.std.specs.Prelude.{List}
-use Rattle.objasm.specs.Evaluation.{first, is_ready, reduced}
+use Rattle.objasm.specs.Evaluation.{first}
 use Rattle.objasm.specs.declared.evaluation.Waiting.{Waiting}
 use Rattle.objasm.proofs.EvaluationLaws.{kept, none_waits, taken}
 use Rattle.objasm.proofs.evaluation.reduce.Goals as goal

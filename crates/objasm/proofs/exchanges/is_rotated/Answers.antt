@@ -1,4 +1,4 @@
-use Rattle.std.proofs.Common.{◌≡◌, ◌∙◌, ap, sym, subst, arith, ℕ, false}
+use Rattle.std.proofs.Common.{◌≡◌, sym, subst, arith, ℕ, false}
 use Rattle.objasm.specs.Exchanges.{rotated_below}
 use Rattle.objasm.proofs.ExchangeLaws.{found_one, none_below, not_yet}
 use Rattle.objasm.proofs.exchanges.is_rotated.Goals as goal

@@ -1,6 +1,5 @@
-use Rattle.std.proofs.Common.{◌≡◌, ◌∙◌, ap, sym, arith}
+use Rattle.std.proofs.Common.{arith}
 use Rattle.objasm.specs.Names.{meanings_of}
-use Rattle.objasm.specs.Source.{FaultedAt, fault_at}
 use Rattle.objasm.proofs.SourceLaws.{settings_end, settings_go, settings_stop}
 use Rattle.objasm.proofs.source.names_of.Goals as goal
 

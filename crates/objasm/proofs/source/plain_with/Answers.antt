@@ -1,6 +1,6 @@
-use Rattle.std.proofs.Common.{◌≡◌, ◌∙◌, ap, sym, arith}
+use Rattle.std.proofs.Common.{arith}
 use Rattle.objasm.specs.Names.{meanings_of}
-use Rattle.objasm.specs.Source.{FaultedAt, fault_at, plain_of}
+use Rattle.objasm.specs.Source.{plain_of}
 use Rattle.objasm.proofs.SourceLaws.{lines_end, lines_go, lines_stop}
 use Rattle.objasm.proofs.source.plain_with.Goals as goal
 
