@@ -25,11 +25,7 @@ fn plain_text(alloc: Global, source: &[u8]) -> Result<Vec<u8>, ReportFault>
 /// # Errors
 ///
 /// `Dialect`, with its line; `Memory`; after any but `Device` nothing was written.
-pub fn plain_report<O: Output>(
-    alloc: Global,
-    source: &[u8],
-    out: &mut O,
-) -> Result<(), ReportFault>
+pub fn plain_report<O: Output>(alloc: Global, source: &[u8], out: &mut O) -> Result<(), ReportFault>
     ensures { Answers O.taken O.failures (λ _ text. IsPlainReport source.now text)
         (IsTranslated source.now) (IsPlainRefused source.now) out.old out.new result }
 {
