@@ -32,7 +32,7 @@ use Rattle.known_places.specs.declared.around.Around.{Around}
 use Rattle.known_places.specs.Words.{Carries, StaysWithin}
 
 -- one address has one word
-one_word : (words : Words) (a b v w : ℕ) → a ≡ b → word_of words a ≡ Some v → word_of words b ≡ Some w → v ≡ w
+pub one_word : (words : Words) (a b v w : ℕ) → a ≡ b → word_of words a ≡ Some v → word_of words b ≡ Some w → v ≡ w
 one_word words a b v w same first second = same_Some v w (sym first ∙ ap (word_of words) same ∙ second)
 
 pub carried_there : (words : Words) (from : Place) (label : Label) (before next : Knowledge) (calls : List ℕ) (address word : ℕ)

@@ -46,6 +46,7 @@ use Rattle.known_words.specs.declared.words.Range.{Range}
 use Rattle.known_words.proofs.ForgetLemmas.{skipped_holds}
 use Rattle.known_places.specs.Words.{Carries, MovesIn, StaysIn}
 use Rattle.known_places.specs.Destinations.{IsDestination, JumpsTo, WordGoesTo}
+use Rattle.known_places.specs.Endless.{NeverHolds, WordNeverGoes}
 use Rattle.known_places.specs.Outside.{BeginsOutside, HasOutside, MovesOutside, WordGoesOutside}
 use Rattle.known_places.specs.declared.destination.Destination.{Destination}
 
@@ -98,6 +99,22 @@ instr_skipped i address before result narrows word means entry turns regs port b
     ∙ ap (λ (b : Bool). cond b (operation_moved i.operation port regs bus) (on_bus bus (skipped regs))) fails in
     subst (λ (x : Moved). Holds entry turns result x.regs) (sym moved)
     (skipped_holds entry turns regs result long (narrows entry turns regs fails holds))
+
+-- an instruction that is not done, or not passed over
+module _ (i : Instr) (before there : Knowledge) where
+  pub instr_not_done : ((entry turns now : List ℕ) → condition_holds i.cond (flags_of (r15_in now)) ≡ true → Holds entry turns before now → Holds entry turns there now)
+      → NeverHolds there → (word : ℕ) → Means word i → WordNeverGoes word Do before
+  instr_not_done narrows none word means entry turns regs action is label holds =
+      let does : holds_in regs i.cond ≡ true =
+      ap (holds_in regs) (sym (action_cond word i action means is)) ∙ done_only (holds_in regs action.cond) label in
+      none entry turns regs (narrows entry turns regs does holds)
+
+  pub instr_not_skipped : ((entry turns now : List ℕ) → condition_holds i.cond (flags_of (r15_in now)) ≡ false → Holds entry turns before now → Holds entry turns there now)
+      → NeverHolds there → (word : ℕ) → Means word i → WordNeverGoes word Skip before
+  instr_not_skipped narrows none word means entry turns regs action is label holds =
+      let fails : holds_in regs i.cond ≡ false =
+      ap (holds_in regs) (sym (action_cond word i action means is)) ∙ skipped_only (holds_in regs action.cond) label in
+      none entry turns regs (narrows entry turns regs fails holds)
 
 -- ## Unallocated words
 
