@@ -1,5 +1,5 @@
 -- Runs that keep the statement do no word that goes outside of its class, and leave no loop that is endless.
-use Rattle.std.proofs.Common.{◌≡◌, ◌∙◌, ℕ, zero, suc, true, false, not, ⊎_elim, List, [], ◌∷◌, ◌++◌, refl, sym, ap, subst, arith}
+use Rattle.std.proofs.Common.{◌≡◌, ◌∙◌, zero, suc, true, false, not, ⊎_elim, List, [], ◌∷◌, ◌++◌, refl, sym, ap, subst, arith}
 use Rattle.std.proofs.lemmas.Bool.{and_from, cases_Bool, false≢true, not_from_false}
 use Rattle.std.specs.Prelude.{Contains}
 use Rattle.walks.specs.Greatest as G

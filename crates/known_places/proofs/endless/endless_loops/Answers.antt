@@ -1,4 +1,4 @@
-use Rattle.std.proofs.Common.{◌<◌, arith, length, subst, sym}
+use Rattle.std.proofs.Common.{arith, subst, sym}
 use Rattle.std.specs.Prelude.{IfSome}
 use Rattle.known_places.specs.Table.{HoldsAlong}
 use Rattle.known_places.proofs.EndlessLemmas.{closed_is_endless}
