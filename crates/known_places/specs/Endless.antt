@@ -38,8 +38,8 @@ use Rattle.known_places.specs.declared.around.Around.{Around}
 -- ## Runs
 
 -- No run from the entry whose registers of the entry's mode but R15 are words of 32 bits and as given at the
--- start, that keeps the bounds of all loops, and keeps the statement step by step but for its classes, goes on
--- by one more such step along an edge that leaves the instance.
+-- start, that keeps the bounds of all loops, and keeps the statement step by step but for its classes, goes
+-- on by one more such step along an edge that leaves the instance.
 abbrev pub IsEndless : Words → Stated → Flow → List Given → Instance → Type 0
 IsEndless words st flow given instance =
     (s now after : State) (inputs : List Input) (walk : List Edge) (i : Input) (stepped : Stepped) (e : Edge)
@@ -58,7 +58,8 @@ AreEndless words st flow tree given endless =
     (number : ℕ) (i : Instance) → number < length tree.instances → endless_at endless number ≡ true
     → IsEndless words st flow given (slice_index_or tree.instances number i)
 
--- No run from the entry that begins as given and keeps the statement, as far as it goes, leaves the instance.
+-- No run from the entry that begins as given and keeps the statement, as far as it goes, leaves the
+-- instance.
 abbrev pub NoneKeptLeaves : Words → Stated → Flow → List Given → Instance → Type 0
 NoneKeptLeaves words st flow given instance =
     (s : State) (inputs : List Input) (walk : List Edge) (end : Place) → AreWords s.regs → AreGiven given s.regs
@@ -66,7 +67,7 @@ NoneKeptLeaves words st flow given instance =
     → Follows words st flow.profile s inputs walk
     → (e : Edge) → Contains walk e → is_left edge_shape place_loops e instance ≡ true → ⊥
 
--- And none that goes from the entry to Exit so comes to one of its places.
+-- No run from the entry to Exit that begins as given and keeps the statement comes to a place of the instance.
 abbrev pub NoneKeptEnters : Words → Stated → Flow → List Given → Instance → Type 0
 NoneKeptEnters words st flow given instance =
     (s : State) (inputs : List Input) (walk : List Edge) → AreWords s.regs → AreGiven given s.regs

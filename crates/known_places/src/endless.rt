@@ -155,14 +155,15 @@ fn all_closed(
     Ok(found)
 }
 
-/// Which instances of the loops no run leaves, by facts on registers before the first step and by a table of what
-/// is known of the registers before each place's word, by the numbers of the places; the answer is by those of
-/// the instances. Where it says yes, no run from the entry that starts as the facts say, keeps the bounds of all
-/// loops, and so far keeps the statement step by step but for its classes, goes on out of the instance: within
-/// the stated bounds each way out of it is seen to be closed, or there is none. None where the table is not seen
-/// to hold along each edge, as in `left_on_trust`.
+/// Which instances of the loops no run leaves, by facts on registers before the first step and by a table of
+/// what is known of the registers before each place's word, by the numbers of the places; the answer is by
+/// those of the instances. Where it says yes, no run from the entry that starts as the facts say, keeps the
+/// bounds of all loops, and so far keeps the statement step by step but for its classes, goes on out of the
+/// instance: within the stated bounds each way out of it is seen to be closed, or there is none. None where the
+/// table is not seen to hold along each edge, as in `left_on_trust`.
 ///
-/// It takes time linear in the edges, the facts and the loops, and in the places of each loop and their edges.
+/// It takes time linear in the edges, the facts and the loops, and in the places of each loop and their
+/// edges.
 ///
 /// # Errors
 ///
@@ -192,8 +193,8 @@ pub fn endless_loops(
 }
 
 /// States that no run that keeps a statement and begins as given leaves an instance of which `endless_loops`
-/// says yes, and that none that ends comes there: so the handler's bound speaks of no run that does. It does
-/// nothing.
+/// says yes, and that none that goes on to Exit comes there: so the handler's bound speaks of no run that
+/// does. It does nothing.
 pub fn endless_is_not_left()
     ensures leaves { (words : Words) → (st : Stated) → (flow : Flow) → (given : List Given)
         → (instance : Instance) → IsEndless words st flow given instance
