@@ -59,8 +59,8 @@ fn is_enough(all: bool, rows: &[Row]) -> bool
     false_count(rows) == 0 && (!all || follows_count(rows) == rows.len())
 }
 
-// What is left on trust, `None` where nothing is seen to follow; where the word of each place goes, and where it
-// goes outside of its class; and which instances of loops no run leaves.
+// What is left on trust, `None` where nothing is seen to follow; where the word of each place goes, and where
+// it goes outside of its class; and which instances of loops no run leaves.
 #[derive(Drop)]
 struct Seen {
     left: Option<OnTrust>,

@@ -59,8 +59,8 @@ pub(crate) enum Entry {
 pub(crate) enum Verdict {
     Follows,
     OnTrust,
-    /// Where it is done, it goes elsewhere than it is taken to go, or outside of its class; or no run leaves the
-    /// loop within the bound.
+    /// Where it is done, it goes elsewhere than it is taken to go, or outside of its class; or no run leaves
+    /// the loop within the bound.
     False,
 }
 
@@ -82,8 +82,8 @@ pub(crate) struct Findings<'a> {
     pub(crate) endless: &'a [bool],
 }
 
-// What is left on trust, where the words of the places go outside of their classes, and which instances of loops
-// no run leaves; and all to be looked up.
+// What is left on trust, where the words of the places go outside of their classes, and which instances of
+// loops no run leaves; and all to be looked up.
 #[derive(Clone, Copy)]
 struct Left<'a> {
     trusted: &'a Option<OnTrust>,
@@ -362,8 +362,8 @@ fn put_loop_rows(
     Ok(())
 }
 
-/// The rows of a handler's statement, by what was found. The classes come first and then the returns, both by their
-/// words' addresses, and then the loops in the statement's order.
+/// The rows of a handler's statement, by what was found. The classes come first and then the returns, both by
+/// their words' addresses, and then the loops in the statement's order.
 ///
 /// Its time is that of sorting the words, and the loops' instances.
 ///

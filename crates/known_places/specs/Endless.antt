@@ -67,7 +67,8 @@ NoneKeptLeaves words st flow given instance =
     → Follows words st flow.profile s inputs walk
     → (e : Edge) → Contains walk e → is_left edge_shape place_loops e instance ≡ true → ⊥
 
--- No run from the entry to Exit that begins as given and keeps the statement comes to a place of the instance.
+-- No run from the entry to Exit that begins as given and keeps the statement comes to a place of the
+-- instance.
 abbrev pub NoneKeptEnters : Words → Stated → Flow → List Given → Instance → Type 0
 NoneKeptEnters words st flow given instance =
     (s : State) (inputs : List Input) (walk : List Edge) → AreWords s.regs → AreGiven given s.regs
