@@ -1,4 +1,4 @@
--- Stated loops that no run leaves, of all their instances.
+-- Which stated loops are said not to be left, in all their instances.
 use Rattle.std.specs.Prelude.{◌≡◌, ◌<◌, ◌&&◌, ℕ, Bool, true, false, List, Option, Some, None, length}
 use Rattle.std.specs.Prelude.{slice_index_or}
 use Rattle.loop_bounds.specs.Instance.{Instance}
@@ -9,14 +9,14 @@ use Rattle.known_places.specs.Endless.{endless_at}
 abbrev pub IsLoopAt : Tree → (address number : ℕ) → Type 0
 IsLoopAt tree a number = (i : Instance) → (slice_index_or tree.instances number i).header ≡ a
 
--- there is such a number below the end, and of each of them no run leaves the instance, as is said
+-- there is such a number below the end, and of each such instance it is said that no run leaves it
 pub record AreAllEndless (IsThere : ℕ → Type 0) (endless : List Bool) (end : ℕ) : Type 0 where
   pub one : ℕ
   pub inside : one < end
   pub there : IsThere one
   pub each : (k : ℕ) → k < end → IsThere k → endless_at endless k ≡ true
 
--- the loop whose header is at the address has an instance, and of no instance of it a run leaves, as is said
+-- the loop whose header is at the address has an instance, and of each of them it is said
 abbrev pub IsEndlessAt : Tree → List Bool → (a : ℕ) → Type 0
 IsEndlessAt tree endless a = AreAllEndless (IsLoopAt tree a) endless (length tree.instances)
 
@@ -27,7 +27,7 @@ abbrev pub with_instance : Option Bool → Bool → Bool
 with_instance None said = said
 with_instance (Some old) said = old && said
 
--- by the instances below the end: there is none, one of them is left, or none is
+-- by the instances below the end: there is none, of one of them it is not said, or of each it is
 abbrev pub IsFoundEndless : (IsThere : ℕ → Type 0) → List Bool → (end : ℕ) → Option Bool → Type 0
 IsFoundEndless IsThere endless end None = (k : ℕ) → k < end → IsThere k → ⊥
 IsFoundEndless IsThere endless end (Some false) =

@@ -26,7 +26,7 @@ kind_text (Access reach) = codes "  access"
 kind_text (Base reach) = codes "  base  "
 kind_text (Return going) = codes "  return"
 kind_text (Loop bound) = codes "  loop  "
-kind_text (Endless bound) = codes "  loop  "
+kind_text Endless = codes "  loop  "
 
 -- the address in R14 at the entry, less so many bytes
 abbrev pub link_text : (bytes : ℕ) → List ℕ
@@ -51,13 +51,13 @@ reach_text (Of class) = class_name class
 reach_text (Outside range) = range_text range
 
 -- what is stated, a class or the most back edges of a stay; or where a word goes outside of its class, or where
--- a return goes, or within how many back edges no run leaves a loop
+-- a return goes, or that no run leaves a loop
 abbrev pub stated_text : Entry → List ℕ
 stated_text (Access reach) = reach_text reach
 stated_text (Base reach) = reach_text reach
 stated_text (Return going) = going_text going
 stated_text (Loop bound) = codes "at most " ++ decimal bound
-stated_text (Endless bound) = codes "no end in " ++ decimal bound
+stated_text Endless = codes "not left"
 
 abbrev pub verdict_text : Verdict → List ℕ
 verdict_text Follows = codes "  follows "

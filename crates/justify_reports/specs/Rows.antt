@@ -99,7 +99,7 @@ loop_verdict false endless = verdict.Follows
 
 abbrev pub loop_entry : (bound : ℕ) → (trusted endless : Bool) → Entry
 loop_entry bound true false = entry.Loop bound
-loop_entry bound true true = entry.Endless bound
+loop_entry bound true true = entry.Endless
 loop_entry bound false endless = entry.Loop bound
 
 abbrev pub loop_row : Option OnTrust → Loop → (endless : Bool) → Row

@@ -38,7 +38,7 @@ fn kind_text(entry: Entry) -> &'static [u8]
         Entry::Access(_) => b"  access",
         Entry::Base(_) => b"  base  ",
         Entry::Return(_) => b"  return",
-        Entry::Loop(_) | Entry::Endless(_) => b"  loop  ",
+        Entry::Loop(_) | Entry::Endless => b"  loop  ",
     }
 }
 
@@ -46,13 +46,6 @@ fn put_most(out: &mut Vec<u8>, bound: u32) -> Result<(), AllocError>
     ensures { OnOk result (out.new.items ≡ out.old.items ++ stated_text (Entry.Loop bound)) }
 {
     put(out, b"at most ")?;
-    put_decimal(out, u64::from(bound))
-}
-
-fn put_no_end(out: &mut Vec<u8>, bound: u32) -> Result<(), AllocError>
-    ensures { OnOk result (out.new.items ≡ out.old.items ++ stated_text (Entry.Endless bound)) }
-{
-    put(out, b"no end in ")?;
     put_decimal(out, u64::from(bound))
 }
 
@@ -130,7 +123,7 @@ fn put_stated(out: &mut Vec<u8>, entry: Entry) -> Result<(), AllocError>
         Entry::Base(reach) => put_reach(out, reach),
         Entry::Return(going) => put_going(out, going),
         Entry::Loop(bound) => put_most(out, bound),
-        Entry::Endless(bound) => put_no_end(out, bound),
+        Entry::Endless => put(out, b"not left"),
     }
 }
 

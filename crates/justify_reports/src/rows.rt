@@ -50,8 +50,8 @@ pub(crate) enum Entry {
     Return(Going),
     /// The most back edges that a stay in a loop takes.
     Loop(u32),
-    /// That bound of a loop which no run leaves within it.
-    Endless(u32),
+    /// That bound, of a loop that no run leaves which keeps all that is stated but its classes.
+    Endless,
 }
 
 /// What is proved of an entry.
@@ -59,8 +59,8 @@ pub(crate) enum Entry {
 pub(crate) enum Verdict {
     Follows,
     OnTrust,
-    /// Where it is done, it goes elsewhere than it is taken to go, or outside of its class; or no run leaves
-    /// the loop within the bound.
+    /// Where it is done, it goes elsewhere than it is taken to go, or outside of its class; or no run that comes
+    /// to the loop leaves it and keeps all that is stated but the classes.
     False,
 }
 
@@ -304,7 +304,7 @@ fn loop_entry(bound: u32, trusted: bool, endless: bool) -> Entry
         return Entry::Loop(bound);
     }
     if endless {
-        Entry::Endless(bound)
+        Entry::Endless
     } else {
         Entry::Loop(bound)
     }

@@ -102,13 +102,13 @@ NeverGoesWithin spans around word label known =
 
 -- ## Edges
 
--- the word that the edge leaves never goes along it
+-- the word that the edge leaves is never done, or never passed over, as the edge's label says
 abbrev pub EdgeNeverTaken : Words → List Span → List Around → List Knowledge → Edge → NumberedEdge → Type 0
 EdgeNeverTaken words spans around known edge numbered =
     (calls : List ℕ) (address word : ℕ) → edge.from ≡ At calls address → word_of words address ≡ Some word
     → NeverGoesWithin spans (around_at around numbered.from) word edge.label (known_at known numbered.from)
 
--- the edge of the number does not leave the span, or is never taken
+-- the edge of the number ends in the span, or is never taken
 abbrev pub StaysInSpan : Words → Flow → Tree → List Around → List Knowledge → Span → (number : ℕ) → Type 0
 StaysInSpan words flow tree around known s k =
     is_in s (edge_at tree.edges k).to ≡ false
