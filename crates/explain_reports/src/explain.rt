@@ -9,6 +9,9 @@ ghost use Rattle.control_flow.specs.Flow.{Flow};
 ghost use Rattle.explain_reports.specs.ExplainReport.{Explains, IsExplanation, IsFullExplanation};
 ghost use Rattle.explain_reports.specs.ExplainReport.{IsTextOf, is_enough};
 ghost use Rattle.explain_reports.specs.FirstStarts.{AreAskedFirst};
+ghost use Rattle.longest_walk.specs.Folded.{unfolded};
+ghost use Rattle.sources.specs.Lines.{AreLines};
+ghost use Rattle.walk_counts.specs.Counts.{AreCounts};
 ghost use Rattle.handlers.specs.Priced.{Priced, given};
 ghost use Rattle.handlers.specs.Refusal.{Carries, CarriesRead, CarriesReadBy, ComesAlone, fault_only};
 ghost use Rattle.handlers.specs.Refusal.{stop_fault};
@@ -31,13 +34,15 @@ use statement::Statement;
 use std::alloc::{AllocError, Global};
 use std::collections::BTreeMap;
 use text_explained::{
-    Bursts, RowForm, TimedWalk, assumed_text, burst_lines, cost_table, idle_entries,
+    Bursts, CountedWalk, RowForm, TimedWalk, assumed_text, burst_lines, cost_table, idle_entries,
     latest_starts_are_of_walks, loop_sums, places_are_listed_once, routine_sums, rule_lines,
     totals_are_the_bound,
 };
 use text_masked::masks_text;
+use text_rows::SourceLine;
 use text_savings::savings_text;
 use walk_contradictions::contradiction_text;
+use walk_counts::edge_counts;
 
 /// How the table of an explanation is printed.
 #[derive(Clone, Copy)]
@@ -76,11 +81,14 @@ struct Means<'p, 'f> {
     first: Option<&'f BTreeMap<u32, u64>>,
 }
 
-// A greatest walk with the worst starts of its places, which rows of its table are printed, and the bursts
-// that are added to its cost, by the profile's price of one.
+// A greatest walk with the worst starts of its places and how often it takes each edge, the lines of the source
+// by the addresses of their words, which rows of its table are printed, and the bursts that are added to its
+// cost, by the profile's price of one.
 #[derive(Clone, Copy)]
-struct BurstWalk<'w, 'p> {
+struct BurstWalk<'w, 'p, 's> {
     timed: TimedWalk<'w>,
+    counts: &'w [u64],
+    lines: &'w BTreeMap<u32, SourceLine<'s>>,
     rows: RowForm,
     profile: &'p Profile,
     bursts: Bursts,
@@ -107,23 +115,30 @@ fn text_of(
     alloc: Global,
     read: &Source<'_>,
     handler: &Handler<'_>,
-    walk: BurstWalk<'_, '_>,
+    walk: BurstWalk<'_, '_, '_>,
 ) -> Result<Vec<u8>, AllocError>
     requires image { handler.now.image.now ≡ read.now.image }
     requires tree { HasItsTree handler.now }
+    requires lines { AreLines read.now walk.lines.now }
+    requires counts { AreCounts handler.now.graph.edges (unfolded walk.timed.longest.now.walk) walk.counts.now }
     ensures { IfOk result
         (λ text. IsTextOf read.now handler.now.statement handler.now.graph walk.entry.timed.longest.now
         (starts_of handler.now.graph.places walk.entry.timed.starts.now (first_of walk.entry.timed.first))
         walk.entry.rows walk.entry.profile.now.burst walk.entry.bursts text.items) }
 {
+    let longest = walk.timed.longest;
+    let counted = CountedWalk {
+        graph: &handler.graph,
+        longest,
+        counts: walk.counts,
+    };
     let mut text = cost_table(alloc, read, handler, walk.timed, walk.rows)?;
-    let mut rest = burst_lines(alloc, walk.profile, walk.timed.longest.bound, walk.bursts)?;
-    let loops = loop_sums(alloc, read, handler, walk.timed.longest)?;
+    let mut rest = burst_lines(alloc, walk.profile, longest.bound, walk.bursts)?;
+    let loops = loop_sums(alloc, walk.lines, handler, counted)?;
     rest.extend_from_slice(&loops)?;
-    let routines = routine_sums(alloc, read, handler, walk.timed.longest)?;
+    let routines = routine_sums(alloc, walk.lines, handler.image, counted)?;
     rest.extend_from_slice(&routines)?;
-    let taken = &walk.timed.longest.walk;
-    let contradictions = contradiction_text(alloc, read, handler.image, taken)?;
+    let contradictions = contradiction_text(alloc, read, handler.image, &longest.walk)?;
     rest.extend_from_slice(&contradictions)?;
     let assumptions = assumed_text(alloc, read, handler)?;
     rest.extend_from_slice(&assumptions)?;
@@ -133,7 +148,7 @@ fn text_of(
     rest.extend_from_slice(&idle)?;
     let masks = masks_text(alloc, read, handler)?;
     rest.extend_from_slice(&masks)?;
-    let saved = savings_text(alloc, read, handler, walk.timed.longest)?;
+    let saved = savings_text(alloc, read, walk.lines, handler, counted)?;
     rest.extend_from_slice(&saved)?;
     text.extend_from_slice(&rest)?;
     Ok(text)
@@ -166,12 +181,16 @@ fn explanation_of(
     totals_are_the_bound();
     latest_starts_are_of_walks();
     run_law();
+    let lines = read.lines(alloc)?;
+    let counts = edge_counts(alloc, &handler.graph, &found.walk)?;
     let walk = BurstWalk {
         timed: TimedWalk {
             longest: &found,
             starts: &starts,
             first: means.first,
         },
+        counts: &counts,
+        lines: &lines,
         rows: means.form.rows,
         profile: means.profile,
         bursts: means.bursts,

@@ -5,4 +5,5 @@ mod SetLemmas
 mod TextLemmas
 mod TrustLemmas
 mod OutsideLemmas
+mod EndlessLemmas
 mod ClassLemmas

@@ -22,11 +22,11 @@ use Rattle.justify_reports.specs.RowTexts.{AreRowTexts, IsEnd, IsRowText, front_
 use Rattle.justify_reports.specs.Summary.{AreFactRows, summary_text}
 use Rattle.justify_reports.specs.declared.rows.Row.{Row}
 
-pub all_rows : (words : Words) (st : Stated) (flow : Flow) (tree : Tree) (left : Option OnTrust) (destinations : List Destination) (outside : List (Option Range)) (named shown : List ℕ) (loops : List Loop)
+pub all_rows : (words : Words) (st : Stated) (flow : Flow) (tree : Tree) (left : Option OnTrust) (destinations : List Destination) (outside : List (Option Range)) (endless : List Bool) (named shown : List ℕ) (loops : List Loop)
     (none classes returns rows : List Row) → AreClassed words st flow left named → shown ≡ named → loops ≡ st.loops.list → none ≡ []
     → Appends (AreClassRows words st flow tree left outside shown) none classes → Appends (AreReturnRows words st flow tree destinations) classes returns
-    → Appends (AreLoopRows left loops) returns rows → AreStatedRows words st flow tree left destinations outside rows
-all_rows words st flow tree left destinations outside named shown loops none classes returns rows are same list empty first then last = record {
+    → Appends (AreLoopRows tree left endless loops) returns rows → AreStatedRows words st flow tree left destinations outside endless rows
+all_rows words st flow tree left destinations outside endless named shown loops none classes returns rows are same list empty first then last = record {
   named = named;
   classes = first.0;
   returns = then.0;
@@ -34,7 +34,7 @@ all_rows words st flow tree left destinations outside named shown loops none cla
   are_classed = are;
   are_classes = subst (λ (ns : List ℕ). AreClassRows words st flow tree left outside ns first.0) same first.1;
   are_returns = then.1;
-  are_loops = subst (λ (ls : List Loop). AreLoopRows left ls last.0) list last.1;
+  are_loops = subst (λ (ls : List Loop). AreLoopRows tree left endless ls last.0) list last.1;
   rows_are =
       last.2
       ∙ ap (λ (xs : List Row). xs ++ last.0) (then.2 ∙ ap (λ (xs : List Row). xs ++ then.0) (first.2 ∙ ap (λ (xs : List Row). xs ++ first.0) empty))

@@ -23,6 +23,7 @@ use Rattle.known_words.specs.Knowledge.{AreWords}
 use Rattle.known_words.specs.declared.given.Given.{Given}
 use Rattle.known_words.specs.declared.words.Range.{Range}
 use Rattle.known_places.specs.Destinations.{AreDestinations}
+use Rattle.known_places.specs.Endless.{AreEndless}
 use Rattle.known_places.specs.OnTrust.{GoesOnTrust, Justifies, OnTrust}
 use Rattle.known_places.specs.Outside.{AreOutside}
 use Rattle.known_places.specs.declared.destination.Destination.{Destination}
@@ -104,17 +105,18 @@ module _ (source statement : List ℕ) (profile : Profile) (read : Source) (is_r
       subst (λ (p : Profile). IsFlowGraph read.image st p flow) (sym loops.graph.graph_is.profile_is)
       (subst (λ (w : Words). IsFlowGraph w st profile flow) own_words loops.graph.graph_is)
 
-  pub justified : (of : IsTreeOf flow st.loops tree) → RunLaw → (given : List Given) (all enough : Bool) (left : Option OnTrust) (goes : List Destination) (outside : List (Option Range)) (rows : List Row) (l : Longest) (text : List ℕ)
+  pub justified : (of : IsTreeOf flow st.loops tree) → RunLaw → (given : List Given) (all enough : Bool) (left : Option OnTrust) (goes : List Destination) (outside : List (Option Range)) (endless : List Bool) (rows : List Row) (l : Longest) (text : List ℕ)
       → IsLongest flow tree l → ((f : WalkFault) → f ≢ walk_fault.Memory → IsWalkFault flow tree f → ⊥) → IfSome left (Justifies read.image st flow given)
-      → AreDestinations read.image st flow tree given goes → AreOutside read.image st flow tree given outside → AreStatedRows read.image st flow tree left goes outside rows → IsJustifyText read given left rows l.bound profile.burst text → enough ≡ is_enough all rows
+      → AreDestinations read.image st flow tree given goes → AreOutside read.image st flow tree given outside → AreEndless read.image st flow tree given endless → AreStatedRows read.image st flow tree left goes outside endless rows → IsJustifyText read given left rows l.bound profile.burst text → enough ≡ is_enough all rows
       → IsJustifyReport source statement given all profile enough text
   unfolding accepted bounded
-  justified of law given all enough left goes outside rows l text is allowed follows go out are is_text answer = record {
+  justified of law given all enough left goes outside endless rows l text is allowed follows go out never are is_text answer = record {
     bounded = bounded source statement profile st flow tree loops of l is allowed;
     read = read;
     left = left;
     destinations = goes;
     outside = outside;
+    endless = endless;
     rows = rows;
     is_read = is_read;
     justified =
@@ -123,6 +125,7 @@ module _ (source statement : List ℕ) (profile : Profile) (read : Source) (is_r
         (bounds_runs loops.graph.words profile st flow l.bound law (tree_is_greatest flow st.loops tree of.instances l.bound is.greatest));
     goes = subst (λ (w : Words). AreDestinations w st flow tree given goes) (sym own_words) go;
     goes_outside = subst (λ (w : Words). AreOutside w st flow tree given outside) (sym own_words) out;
+    never_left = subst (λ (w : Words). AreEndless w st flow tree given endless) (sym own_words) never;
     are_rows = are;
     text_is = is_text;
     answer_is = answer;

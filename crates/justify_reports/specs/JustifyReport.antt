@@ -2,6 +2,7 @@
 use Rattle.std.specs.Prelude.{◌≡◌, ◌==◌, ℕ, Bool, true, not, ◌&&◌, ◌||◌, List, ◌++◌, length, Option, Result}
 use Rattle.bus_ticks.specs.declared.profile.Profile.{Profile}
 use Rattle.known_places.specs.Destinations.{AreDestinations}
+use Rattle.known_places.specs.Endless.{AreEndless}
 use Rattle.known_places.specs.OnTrust.{OnTrust}
 use Rattle.known_places.specs.Outside.{AreOutside}
 use Rattle.known_places.specs.declared.destination.Destination.{Destination}
@@ -32,8 +33,8 @@ abbrev pub is_enough : (all : Bool) → List Row → Bool
 is_enough all rows = (false_count rows == 0) && (not all || (follows_count rows == length rows))
 
 -- Of an accepted source and statement: what is left on trust, where each other entry is proved to follow; where
--- the words go that return or leave, and which words go outside of their classes; the rows that say so, and the
--- bound of each run that keeps what is on trust.
+-- the words go that return or leave, which words go outside of their classes, and which loops no run leaves; the
+-- rows that say so, and the bound of each run that keeps what is on trust.
 pub record IsJustifyReport (source statement : List ℕ) (given : List Given) (all : Bool) (profile : Profile)
     (answer : Bool) (text : List ℕ) : Type 0 where
   pub bounded : IsBounded source statement profile
@@ -41,6 +42,7 @@ pub record IsJustifyReport (source statement : List ℕ) (given : List Given) (a
   pub left : Option OnTrust
   pub destinations : List Destination
   pub outside : List (Option Range)
+  pub endless : List Bool
   pub rows : List Row
   pub is_read : IsSource source read
   pub justified : IsJustified bounded.accepted.loops.graph.words bounded.accepted.stated profile
@@ -49,8 +51,10 @@ pub record IsJustifyReport (source statement : List ℕ) (given : List Given) (a
       bounded.tree given destinations
   pub goes_outside : AreOutside bounded.accepted.loops.graph.words bounded.accepted.stated bounded.accepted.flow
       bounded.tree given outside
+  pub never_left : AreEndless bounded.accepted.loops.graph.words bounded.accepted.stated bounded.accepted.flow
+      bounded.tree given endless
   pub are_rows : AreStatedRows read.image bounded.accepted.stated bounded.accepted.flow bounded.tree left
-      destinations outside rows
+      destinations outside endless rows
   pub text_is : IsJustifyText read given left rows bounded.longest.bound profile.burst text
   pub answer_is : answer ≡ is_enough all rows
 

@@ -2,6 +2,7 @@ pub mod Trust
 pub mod TrustSets
 pub mod Returns
 pub mod Outside
+pub mod Endless
 pub mod Rows
 pub mod RowTexts
 pub mod Summary

@@ -13,7 +13,7 @@ use Rattle.text_rows.specs.WordLines.{Numbered}
 use Rattle.justify_reports.specs.declared.returns.Going.{Going}
 use Rattle.justify_reports.specs.declared.returns.Going.TheVariants.{AfterCall, Back, BackInside, Elsewhere, Out, Unseen}
 use Rattle.justify_reports.specs.declared.rows.Entry.{Entry}
-use Rattle.justify_reports.specs.declared.rows.Entry.TheVariants.{Access, Base, Loop, Return}
+use Rattle.justify_reports.specs.declared.rows.Entry.TheVariants.{Access, Base, Endless, Loop, Return}
 use Rattle.justify_reports.specs.declared.rows.Reach.{Reach}
 use Rattle.justify_reports.specs.declared.rows.Reach.TheVariants.{Of, Outside}
 use Rattle.justify_reports.specs.declared.rows.Row.{Row}
@@ -26,6 +26,7 @@ kind_text (Access reach) = codes "  access"
 kind_text (Base reach) = codes "  base  "
 kind_text (Return going) = codes "  return"
 kind_text (Loop bound) = codes "  loop  "
+kind_text Endless = codes "  loop  "
 
 -- the address in R14 at the entry, less so many bytes
 abbrev pub link_text : (bytes : ℕ) → List ℕ
@@ -50,12 +51,13 @@ reach_text (Of class) = class_name class
 reach_text (Outside range) = range_text range
 
 -- what is stated, a class or the most back edges of a stay; or where a word goes outside of its class, or where
--- a return goes
+-- a return goes, or that no run leaves a loop
 abbrev pub stated_text : Entry → List ℕ
 stated_text (Access reach) = reach_text reach
 stated_text (Base reach) = reach_text reach
 stated_text (Return going) = going_text going
 stated_text (Loop bound) = codes "at most " ++ decimal bound
+stated_text Endless = codes "not left"
 
 abbrev pub verdict_text : Verdict → List ℕ
 verdict_text Follows = codes "  follows "

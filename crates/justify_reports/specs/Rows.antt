@@ -21,6 +21,7 @@ use Rattle.loop_bounds.specs.Tree.{Tree}
 use Rattle.known_words.specs.declared.words.Range.{Range}
 use Rattle.known_places.specs.OnTrust.{OnTrust}
 use Rattle.known_places.specs.declared.destination.Destination.{Destination}
+use Rattle.justify_reports.specs.Endless.{IsEndlessAt}
 use Rattle.justify_reports.specs.Outside.{IsOutside}
 use Rattle.justify_reports.specs.Returns.{AreReturns, IsGoing}
 use Rattle.justify_reports.specs.Trust.{lists_class, trusts_class, trusts_loop}
@@ -62,10 +63,6 @@ IsClassAt words st a class = (i : Instr) → HasInstr words a i → class ≡ cl
 abbrev pub entry_of : Stated → ℕ → Reach → Entry
 entry_of st a reach = if is_some (lookup (nat_eq a) st.accesses) then entry.Access reach else entry.Base reach
 
-abbrev pub by_trust : Bool → Verdict
-by_trust true = verdict.OnTrust
-by_trust false = verdict.Follows
-
 -- a class that is on trust is false where the word goes outside of it
 abbrev pub class_verdict : (trusted : Bool) → Option Range → Verdict
 class_verdict true None = verdict.OnTrust
@@ -94,9 +91,31 @@ pub record IsClassRow (words : Words) (st : Stated) (flow : Flow) (tree : Tree) 
   pub range_is : IsOutside flow tree outside a range
   pub row_is : row ≡ class_row st left a class range
 
-abbrev pub loop_row : Option OnTrust → Loop → Row
-loop_row left l =
-    record { entry = entry.Loop l.bound; at = l.header; verdict = by_trust (trusts_loop left l.header) }
+-- a bound that is on trust is false where no run leaves the loop
+abbrev pub loop_verdict : (trusted endless : Bool) → Verdict
+loop_verdict true false = verdict.OnTrust
+loop_verdict true true = verdict.False
+loop_verdict false endless = verdict.Follows
+
+abbrev pub loop_entry : (bound : ℕ) → (trusted endless : Bool) → Entry
+loop_entry bound true false = entry.Loop bound
+loop_entry bound true true = entry.Endless
+loop_entry bound false endless = entry.Loop bound
+
+abbrev pub loop_row : Option OnTrust → Loop → (endless : Bool) → Row
+loop_row left l endless =
+    record {
+      entry = loop_entry l.bound (trusts_loop left l.header) endless;
+      at = l.header;
+      verdict = loop_verdict (trusts_loop left l.header) endless;
+    }
+
+-- the row of a stated loop
+pub record IsLoopRow (tree : Tree) (left : Option OnTrust) (endless : List Bool) (l : Loop)
+    (row : Row) : Type 0 where
+  pub is_endless : Bool
+  pub endless_is : (is_endless ≡ true) ↔ IsEndlessAt tree endless l.header
+  pub row_is : row ≡ loop_row left l is_endless
 
 abbrev pub verdict_of : Going → Verdict
 verdict_of (Back bytes) = verdict.Follows
@@ -134,13 +153,15 @@ pub record AreReturnRows (words : Words) (st : Stated) (flow : Flow) (tree : Tre
 abbrev pub AreFoundRows : (ℕ → Option Going) → List ℕ → List Row → Type 0
 AreFoundRows found = AreRows (λ a part. part ≡ return_row (unwrap_or (found a) Unseen) a ∷ [])
 
-abbrev pub AreLoopRows : Option OnTrust → List Loop → List Row → Type 0
-AreLoopRows left = AreRows (λ l part. part ≡ loop_row left l ∷ [])
+abbrev pub AreLoopRows : Tree → Option OnTrust → List Bool → List Loop → List Row → Type 0
+AreLoopRows tree left endless =
+    AreRows (λ l part. (row : Row) × IsLoopRow tree left endless l row × (part ≡ row ∷ []))
 
 -- the rows of the words with a class, then of those that return or leave, both by their addresses, and then
 -- of all stated loops, in the statement's order
 pub record AreStatedRows (words : Words) (st : Stated) (flow : Flow) (tree : Tree) (left : Option OnTrust)
-    (destinations : List Destination) (outside : List (Option Range)) (rows : List Row) : Type 0 where
+    (destinations : List Destination) (outside : List (Option Range)) (endless : List Bool)
+    (rows : List Row) : Type 0 where
   pub named : List ℕ
   pub classes : List Row
   pub returns : List Row
@@ -148,5 +169,5 @@ pub record AreStatedRows (words : Words) (st : Stated) (flow : Flow) (tree : Tre
   pub are_classed : AreClassed words st flow left named
   pub are_classes : AreClassRows words st flow tree left outside named classes
   pub are_returns : AreReturnRows words st flow tree destinations returns
-  pub are_loops : AreLoopRows left st.loops.list loops
+  pub are_loops : AreLoopRows tree left endless st.loops.list loops
   pub rows_are : rows ≡ classes ++ (returns ++ loops)

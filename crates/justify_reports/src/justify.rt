@@ -4,6 +4,7 @@ ghost use Rattle.std.specs.Prelude.{◌≡◌, ◌∷◌, [], ◌==◌, ◌||◌
 ghost use Rattle.control_flow.specs.Graph.{IsFlowGraph};
 ghost use Rattle.loop_bounds.specs.Handler.{HasItsTree};
 ghost use Rattle.known_places.specs.Destinations.{AreDestinations};
+ghost use Rattle.known_places.specs.Endless.{AreEndless};
 ghost use Rattle.known_places.specs.OnTrust.{Justifies};
 ghost use Rattle.known_places.specs.Outside.{AreOutside};
 ghost use Rattle.handlers.specs.Priced.{Priced, given};
@@ -15,7 +16,7 @@ ghost use Rattle.justify_reports.specs.JustifyReport.{IsJustifyReport, IsJustify
 ghost use Rattle.justify_reports.specs.JustifyReport.{is_enough};
 
 use crate::row_texts::put_row_texts;
-use crate::rows::{Row, stated_rows};
+use crate::rows::{Findings, Row, stated_rows};
 use crate::summary::{Summary, false_count, follows_count, put_facts, put_summary};
 use bus_ticks::Profile;
 use control_flow::graphs_are_well_formed;
@@ -24,7 +25,9 @@ use handlers::{
     Handler, Refusal, ReportFault, Stop, longest_of, print_or_refuse, profile_of, read_handler,
     read_source, with_source,
 };
-use known_places::{Destination, OnTrust, destinations, left_on_trust, outside_classes, proposed};
+use known_places::{
+    Destination, OnTrust, destinations, endless_loops, left_on_trust, outside_classes, proposed,
+};
 use known_words::{Given, Knowledge, Range};
 use outputs::Output;
 use sources::Source;
@@ -56,13 +59,14 @@ fn is_enough(all: bool, rows: &[Row]) -> bool
     false_count(rows) == 0 && (!all || follows_count(rows) == rows.len())
 }
 
-// What is left on trust, `None` where nothing is seen to follow; where the word of each place goes, and where it
-// goes outside of its class.
+// What is left on trust, `None` where nothing is seen to follow; where the word of each place goes, and where
+// it goes outside of its class; and which instances of loops no run leaves.
 #[derive(Drop)]
 struct Seen {
     left: Option<OnTrust>,
     destinations: Vec<Destination>,
     outside: Vec<Option<Range>>,
+    endless: Vec<bool>,
 }
 
 fn destinations_of(
@@ -101,6 +105,24 @@ fn outside_of(
     }
 }
 
+fn endless_of(
+    alloc: Global,
+    handler: &Handler<'_>,
+    given: &[Given],
+    table: &[Knowledge],
+) -> Result<Vec<bool>, AllocError>
+    requires graph { IsFlowGraph handler.now.image.now handler.now.statement handler.now.graph.profile
+        handler.now.graph }
+    requires tree { HasItsTree handler.now }
+    ensures { IfOk result (λ found. AreEndless handler.now.image.now handler.now.statement
+        handler.now.graph handler.now.tree given.now found.items) }
+{
+    match endless_loops(alloc, handler, given, table)? {
+        Some(found) => Ok(found),
+        None => Ok(Vec::new(alloc)),
+    }
+}
+
 fn seen_of(alloc: Global, handler: &Handler<'_>, given: &[Given]) -> Result<Seen, AllocError>
     requires graph { IsFlowGraph handler.now.image.now handler.now.statement handler.now.graph.profile
         handler.now.graph }
@@ -111,15 +133,19 @@ fn seen_of(alloc: Global, handler: &Handler<'_>, given: &[Given]) -> Result<Seen
         handler.now.graph handler.now.tree given.now seen.destinations.items) }
     ensures outside { IfOk result (λ seen. AreOutside handler.now.image.now handler.now.statement
         handler.now.graph handler.now.tree given.now seen.outside.items) }
+    ensures endless { IfOk result (λ seen. AreEndless handler.now.image.now handler.now.statement
+        handler.now.graph handler.now.tree given.now seen.endless.items) }
 {
     let table = proposed(alloc, handler, given)?;
     let left = left_on_trust(alloc, handler, given, &table)?;
     let destinations = destinations_of(alloc, handler, given, &table)?;
     let outside = outside_of(alloc, handler, given, &table)?;
+    let endless = endless_of(alloc, handler, given, &table)?;
     Ok(Seen {
         left,
         destinations,
         outside,
+        endless,
     })
 }
 
@@ -157,13 +183,13 @@ fn handler_justified(
 {
     let found = longest_of(alloc, handler)?;
     let seen = seen_of(alloc, handler, justified.given)?;
-    let rows = stated_rows(
-        alloc,
-        handler,
-        &seen.left,
-        &seen.destinations,
-        &seen.outside,
-    )?;
+    let findings = Findings {
+        trusted: &seen.left,
+        destinations: &seen.destinations,
+        outside: &seen.outside,
+        endless: &seen.endless,
+    };
+    let rows = stated_rows(alloc, handler, findings)?;
     graphs_are_well_formed(&handler.graph);
     run_law();
     let summary = Summary {

@@ -3,6 +3,7 @@
 #![tactic(auto)]
 
 mod classed;
+mod endless;
 mod justify;
 mod law;
 mod outside;

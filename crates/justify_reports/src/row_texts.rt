@@ -38,7 +38,7 @@ fn kind_text(entry: Entry) -> &'static [u8]
         Entry::Access(_) => b"  access",
         Entry::Base(_) => b"  base  ",
         Entry::Return(_) => b"  return",
-        Entry::Loop(_) => b"  loop  ",
+        Entry::Loop(_) | Entry::Endless => b"  loop  ",
     }
 }
 
@@ -114,7 +114,7 @@ fn put_reach(out: &mut Vec<u8>, reach: Reach) -> Result<(), AllocError>
     }
 }
 
-// Adds what an entry states, or where a word goes.
+// Adds what an entry states, or where a word goes, or that no run leaves a loop.
 fn put_stated(out: &mut Vec<u8>, entry: Entry) -> Result<(), AllocError>
     ensures { OnOk result (out.new.items ≡ out.old.items ++ stated_text entry) }
 {
@@ -123,6 +123,7 @@ fn put_stated(out: &mut Vec<u8>, entry: Entry) -> Result<(), AllocError>
         Entry::Base(reach) => put_reach(out, reach),
         Entry::Return(going) => put_going(out, going),
         Entry::Loop(bound) => put_most(out, bound),
+        Entry::Endless => put(out, b"not left"),
     }
 }
 

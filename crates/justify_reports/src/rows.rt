@@ -7,12 +7,15 @@ ghost use Rattle.std.specs.Ordering.{nat_cmp};
 ghost use Rattle.asm_text.specs.Appended.{Appends};
 ghost use Rattle.loop_bounds.specs.Handler.{HasItsTree};
 ghost use Rattle.justify_reports.specs.Rows.{AreClassRows, AreLoopRows, AreStatedRows, IsClassAt, IsClassRow};
+ghost use Rattle.justify_reports.specs.Rows.{IsLoopRow};
+ghost use Rattle.justify_reports.specs.Endless.{AreFoundEndless};
 ghost use Rattle.justify_reports.specs.Outside.{AreFoundOutside};
-ghost use Rattle.justify_reports.specs.Rows.{AreFoundRows, AreReturnRows, by_trust, class_verdict, entry_of};
-ghost use Rattle.justify_reports.specs.Rows.{loop_row, reach_of, return_row, verdict_of};
+ghost use Rattle.justify_reports.specs.Rows.{AreFoundRows, AreReturnRows, class_verdict, entry_of, loop_entry};
+ghost use Rattle.justify_reports.specs.Rows.{loop_verdict, reach_of, return_row, verdict_of};
 ghost use Rattle.justify_reports.specs.TrustSets.{AreSetsOf};
 
 use crate::classed::classed;
+use crate::endless::{endless_headers, is_found};
 use crate::outside::ranges_outside;
 use crate::returns::{Going, goings, return_addresses};
 use crate::trusted::TrustSets;
@@ -47,6 +50,8 @@ pub(crate) enum Entry {
     Return(Going),
     /// The most back edges that a stay in a loop takes.
     Loop(u32),
+    /// That bound, of a loop that no run leaves which keeps all that is stated but its classes.
+    Endless,
 }
 
 /// What is proved of an entry.
@@ -54,7 +59,8 @@ pub(crate) enum Entry {
 pub(crate) enum Verdict {
     Follows,
     OnTrust,
-    /// Where it is done, it goes elsewhere than it is taken to go, or outside of its class.
+    /// Where it is done, it goes elsewhere than it is taken to go, or outside of its class; or no run that comes
+    /// to the loop leaves it and keeps all that is stated but the classes.
     False,
 }
 
@@ -66,14 +72,26 @@ pub(crate) struct Row {
     pub(crate) verdict: Verdict,
 }
 
-// What is left on trust, and where the words of the places go outside of their classes; and both to be looked
-// up.
+/// What is left on trust, where that is `None`, all is; where the word of each place goes, and where it goes
+/// outside of its class; and which instances of loops no run leaves.
+#[derive(Clone, Copy)]
+pub(crate) struct Findings<'a> {
+    pub(crate) trusted: &'a Option<OnTrust>,
+    pub(crate) destinations: &'a [Destination],
+    pub(crate) outside: &'a [Option<Range>],
+    pub(crate) endless: &'a [bool],
+}
+
+// What is left on trust, where the words of the places go outside of their classes, and which instances of
+// loops no run leaves; and all to be looked up.
 #[derive(Clone, Copy)]
 struct Left<'a> {
     trusted: &'a Option<OnTrust>,
     sets: &'a TrustSets,
     outside: &'a [Option<Range>],
     ranges: &'a BTreeMap<u32, Option<Range>>,
+    endless: &'a [bool],
+    headers: &'a BTreeMap<u32, bool>,
 }
 
 // The class that is stated of what the word at an address transfers.
@@ -99,16 +117,6 @@ fn entry_of(statement: &Statement, at: u32, reach: Reach) -> Entry
         Entry::Access(reach)
     } else {
         Entry::Base(reach)
-    }
-}
-
-fn by_trust(on_trust: bool) -> Verdict
-    ensures { result ≡ by_trust on_trust }
-{
-    if on_trust {
-        Verdict::OnTrust
-    } else {
-        Verdict::Follows
     }
 }
 
@@ -276,44 +284,88 @@ fn put_return_rows(
     put_found_rows(rows, &found, &named)
 }
 
-fn loop_row(left: Left<'_>, stated: &Loop) -> Row
-    requires { AreSetsOf left.trusted.now left.sets.now }
-    ensures { result ≡ loop_row left.entry.trusted.now stated.now }
+fn loop_verdict(trusted: bool, endless: bool) -> Verdict
+    ensures { result ≡ loop_verdict trusted endless }
 {
-    Row {
-        entry: Entry::Loop(stated.bound),
-        at: stated.header,
-        verdict: by_trust(left.sets.has_loop(stated.header)),
+    if !trusted {
+        return Verdict::Follows;
+    }
+    if endless {
+        Verdict::False
+    } else {
+        Verdict::OnTrust
     }
 }
 
-fn put_loop_row(rows: &mut Vec<Row>, left: Left<'_>, stated: &Loop) -> Result<(), AllocError>
-    requires { AreSetsOf left.trusted.now left.sets.now }
-    ensures { OnOk result
-        (Appends (λ part. part ≡ loop_row left.entry.trusted.now stated.now ∷ []) rows.old.items
-        rows.new.items) }
+fn loop_entry(bound: u32, trusted: bool, endless: bool) -> Entry
+    ensures { result ≡ loop_entry bound trusted endless }
 {
-    let row = loop_row(left, stated);
+    if !trusted {
+        return Entry::Loop(bound);
+    }
+    if endless {
+        Entry::Endless
+    } else {
+        Entry::Loop(bound)
+    }
+}
+
+fn loop_row(handler: &Handler<'_>, left: Left<'_>, stated: &Loop) -> Row
+    requires sets { AreSetsOf left.trusted.now left.sets.now }
+    requires headers { AreFoundEndless handler.now.tree left.endless.now (length handler.now.tree.instances)
+        (get nat_cmp left.headers.now) }
+    ensures { IsLoopRow handler.now.tree left.entry.trusted.now left.entry.endless.now stated.now result }
+{
+    let trusted = left.sets.has_loop(stated.header);
+    let endless = is_found(left.headers, stated.header);
+    Row {
+        entry: loop_entry(stated.bound, trusted, endless),
+        at: stated.header,
+        verdict: loop_verdict(trusted, endless),
+    }
+}
+
+fn put_loop_row(
+    rows: &mut Vec<Row>,
+    handler: &Handler<'_>,
+    left: Left<'_>,
+    stated: &Loop,
+) -> Result<(), AllocError>
+    requires sets { AreSetsOf left.trusted.now left.sets.now }
+    requires headers { AreFoundEndless handler.now.tree left.endless.now (length handler.now.tree.instances)
+        (get nat_cmp left.headers.now) }
+    ensures { OnOk result
+        (Appends (λ part. (row : Row) × IsLoopRow handler.now.tree left.entry.trusted.now
+        left.entry.endless.now stated.now row × (part ≡ row ∷ [])) rows.old.items rows.new.items) }
+{
+    let row = loop_row(handler, left, stated);
     rows.push(row)?;
     Ok(())
 }
 
-fn put_loop_rows(rows: &mut Vec<Row>, left: Left<'_>, loops: &[Loop]) -> Result<(), AllocError>
-    requires { AreSetsOf left.trusted.now left.sets.now }
+fn put_loop_rows(
+    rows: &mut Vec<Row>,
+    handler: &Handler<'_>,
+    left: Left<'_>,
+    loops: &[Loop],
+) -> Result<(), AllocError>
+    requires sets { AreSetsOf left.trusted.now left.sets.now }
+    requires headers { AreFoundEndless handler.now.tree left.endless.now (length handler.now.tree.instances)
+        (get nat_cmp left.headers.now) }
     ensures { OnOk result
-        (Appends (AreLoopRows left.entry.trusted.now loops.now) rows.old.items rows.new.items) }
+        (Appends (AreLoopRows handler.now.tree left.entry.trusted.now left.entry.endless.now loops.now)
+        rows.old.items rows.new.items) }
 {
     for stated in loops {
-        put_loop_row(rows, left, stated)?;
+        put_loop_row(rows, handler, left, stated)?;
     }
     Ok(())
 }
 
-/// The rows of a handler's statement, by what is left on trust: where that is `None`, all is; and by where
-/// the word of each place goes, and where it goes outside of its class. The classes come first and then the returns, both by their words' addresses,
-/// and then the loops in the statement's order.
+/// The rows of a handler's statement, by what was found. The classes come first and then the returns, both by
+/// their words' addresses, and then the loops in the statement's order.
 ///
-/// Its time is that of sorting the words.
+/// Its time is that of sorting the words, and the loops' instances.
 ///
 /// # Errors
 ///
@@ -321,27 +373,29 @@ fn put_loop_rows(rows: &mut Vec<Row>, left: Left<'_>, loops: &[Loop]) -> Result<
 pub(crate) fn stated_rows(
     alloc: Global,
     handler: &Handler<'_>,
-    trusted: &Option<OnTrust>,
-    destinations: &[Destination],
-    outside: &[Option<Range>],
+    found: Findings<'_>,
 ) -> Result<Vec<Row>, AllocError>
     requires { HasItsTree handler.now }
     ensures { IfOk result
         (λ rows. AreStatedRows handler.now.image.now handler.now.statement handler.now.graph handler.now.tree
-        trusted.now destinations.now outside.now rows.items) }
+        found.entry.trusted.now found.entry.destinations.now found.entry.outside.now found.entry.endless.now
+        rows.items) }
 {
-    let sets = TrustSets::of(alloc, trusted)?;
-    let ranges = ranges_outside(alloc, handler, outside)?;
-    let named = classed(alloc, handler, trusted)?;
+    let sets = TrustSets::of(alloc, found.trusted)?;
+    let ranges = ranges_outside(alloc, handler, found.outside)?;
+    let headers = endless_headers(alloc, handler, found.endless)?;
+    let named = classed(alloc, handler, found.trusted)?;
     let left = Left {
-        trusted,
+        trusted: found.trusted,
         sets: &sets,
-        outside,
+        outside: found.outside,
         ranges: &ranges,
+        endless: found.endless,
+        headers: &headers,
     };
     let mut rows = Vec::new(alloc);
     put_class_rows(&mut rows, handler, left, &named)?;
-    put_return_rows(&mut rows, handler, destinations)?;
-    put_loop_rows(&mut rows, left, handler.statement.loops().list())?;
+    put_return_rows(&mut rows, handler, found.destinations)?;
+    put_loop_rows(&mut rows, handler, left, handler.statement.loops().list())?;
     Ok(rows)
 }

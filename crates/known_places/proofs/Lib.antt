@@ -6,3 +6,4 @@ mod ArriveLemmas
 mod RunLemmas
 mod OutsideLemmas
 mod NotKeptLemmas
+mod EndlessLemmas

@@ -1,12 +1,11 @@
 -- What is shown of one edge or one place, for all that stand there.
-use Rattle.std.proofs.Common.{◌≡◌, ◌∙◌, ℕ, ◌+◌, ◌<◌, ◌≤◌, arith, ◌⊎◌, ⊎_elim, inl, inr, List, [], ◌∷◌, ◌++◌, length, length-append, Some, refl, sym, ap, subst}
+use Rattle.std.proofs.Common.{◌≡◌, ◌∙◌, ℕ, ◌+◌, ◌<◌, ◌≤◌, arith, ◌⊎◌, ⊎_elim, inl, inr, List, [], ◌∷◌, ◌++◌, length, length-append, Some, sym, ap, subst}
 use Rattle.std.proofs.Math.Seq.{get_or-append_seam}
 use Rattle.std.proofs.lemmas.Bool.{cases_lt}
 use Rattle.std.proofs.lemmas.List.{get_or_append_left}
 use Rattle.std.specs.Prelude.{Contains, slice_index_or}
 use Rattle.std.proofs.lemmas.List.Elements.{Contains-append_left, Contains-append_right}
 use Rattle.std.proofs.lemmas.Option.{same_Some}
-use Rattle.control_flow.proofs.SortedLemmas.{here}
 use Rattle.image.specs.Image.{Words, word_of}
 use Rattle.statement.specs.Stated.{Stated, class_at}
 use Rattle.control_flow.specs.Flow.{Flow}
@@ -32,7 +31,7 @@ use Rattle.known_places.specs.declared.around.Around.{Around}
 use Rattle.known_places.specs.Words.{Carries, StaysWithin}
 
 -- one address has one word
-one_word : (words : Words) (a b v w : ℕ) → a ≡ b → word_of words a ≡ Some v → word_of words b ≡ Some w → v ≡ w
+pub one_word : (words : Words) (a b v w : ℕ) → a ≡ b → word_of words a ≡ Some v → word_of words b ≡ Some w → v ≡ w
 one_word words a b v w same first second = same_Some v w (sym first ∙ ap (word_of words) same ∙ second)
 
 pub carried_there : (words : Words) (from : Place) (label : Label) (before next : Knowledge) (calls : List ℕ) (address word : ℕ)

@@ -1,5 +1,5 @@
 -- What is known after a word, and of what class its transfers are.
-use Rattle.std.proofs.Common.{◌≡◌, ◌∙◌, ℕ, ◌⊎◌, inl, inr, Bool, true, false, cond, List, length, Option, Some, None, ◌≤◌, refl, sym, ap, subst, arith}
+use Rattle.std.proofs.Common.{◌≡◌, ◌∙◌, ℕ, inl, inr, Bool, true, false, cond, List, Option, Some, None, ◌≤◌, refl, sym, ap, subst, arith}
 use Rattle.std.specs.Prelude.{IfSome}
 use Rattle.bus_ticks.specs.Prices.{word_address}
 use Rattle.bus_ticks.specs.Worst.{IsOf}
@@ -9,15 +9,13 @@ use Rattle.arm2_decode.specs.Table.{IsUnallocated, Means}
 use Rattle.arm2_decode.specs.declared.instr.Instr.{Instr}
 use Rattle.arm2_decode.specs.declared.instr.Operation.{Operation}
 use Rattle.arm2_decode.specs.declared.instr.Unallocated.{Unallocated}
-use Rattle.arm2_decode.specs.declared.names.Cond.{Cond}
 use Rattle.arm2_decode.specs.Writers.{data_writes_pc}
 use Rattle.arm2_decode.specs.declared.names.Opcode.{Opcode}
 use Rattle.arm2_decode.specs.declared.names.Register.{Register}
 use Rattle.shifter.specs.declared.shifts.Shifted.{Shifted}
 use Rattle.operation_laws.specs.Leaves.{LeavesData}
 use Rattle.std.proofs.lemmas.Bool.{cond-true}
-use Rattle.arm2_decode.proofs.Unique.{never_both, one_instr, one_unallocated}
-use Rattle.arm2_effect.specs.declared.step_end.Kind.{Kind}
+use Rattle.arm2_decode.proofs.Unique.{never_both, one_instr}
 use Rattle.arm2_effect.specs.declared.step_end.Kind.TheVariants as ended
 use Rattle.arm2_effect.specs.declared.step_end.Why.TheVariants as why
 use Rattle.arm2_effect.specs.Effects.{skipped, stopped}
@@ -28,17 +26,17 @@ use Rattle.arm2_effect.specs.ProgramCounter.{address_of, flags_of}
 use Rattle.arm2_transfer.specs.Moved.{Moved, on_bus}
 use Rattle.arm2_transfer.specs.Operations.{operation_moved}
 use Rattle.arm2_transfer.specs.declared.bus.Bus.{Bus}
-use Rattle.arm2_exec.specs.Step.{Obeys, address_in, instruction_moved, unallocated_moved}
-use Rattle.control_flow.specs.Kinds.{IsAction, instr_action, unallocated_action}
+use Rattle.arm2_exec.specs.Step.{Obeys, address_in, instruction_moved}
+use Rattle.control_flow.specs.Kinds.{IsAction}
 use Rattle.control_flow.specs.declared.actions.Action.{Action}
 use Rattle.control_flow.specs.declared.edges.Label.{Label}
 use Rattle.control_flow.specs.declared.edges.Label.TheVariants.{Do, Skip}
-use Rattle.flow_graph.specs.StepLaw.{TransfersIn, holds_in, label_in}
+use Rattle.flow_graph.specs.StepLaw.{holds_in}
 use Rattle.kept_runs.specs.Reading.{instr_reading, transfer_if, unallocated_reading}
 use Rattle.kept_runs.specs.Transfers.{HasNoOther, HasOther, words_of}
 use Rattle.kept_runs.specs.declared.transfers.Access as wanted
 use Rattle.kept_runs.specs.declared.transfers.Transfer.{Transfer}
-use Rattle.kept_runs.proofs.MovedLemmas.{Moves, word_moves}
+use Rattle.kept_runs.proofs.MovedLemmas.{word_moves}
 use Rattle.known_words.specs.After.{After}
 use Rattle.known_words.specs.Knowledge.{Holds}
 use Rattle.known_words.specs.declared.knowledge.Knowledge.{Knowledge}
@@ -46,6 +44,7 @@ use Rattle.known_words.specs.declared.words.Range.{Range}
 use Rattle.known_words.proofs.ForgetLemmas.{skipped_holds}
 use Rattle.known_places.specs.Words.{Carries, MovesIn, StaysIn}
 use Rattle.known_places.specs.Destinations.{IsDestination, JumpsTo, WordGoesTo}
+use Rattle.known_places.specs.Endless.{NeverHolds, WordNeverGoes}
 use Rattle.known_places.specs.Outside.{BeginsOutside, HasOutside, MovesOutside, WordGoesOutside}
 use Rattle.known_places.specs.declared.destination.Destination.{Destination}
 
@@ -98,6 +97,22 @@ instr_skipped i address before result narrows word means entry turns regs port b
     ∙ ap (λ (b : Bool). cond b (operation_moved i.operation port regs bus) (on_bus bus (skipped regs))) fails in
     subst (λ (x : Moved). Holds entry turns result x.regs) (sym moved)
     (skipped_holds entry turns regs result long (narrows entry turns regs fails holds))
+
+-- an instruction that is not done, or not passed over
+module _ (i : Instr) (before there : Knowledge) where
+  pub instr_not_done : ((entry turns now : List ℕ) → condition_holds i.cond (flags_of (r15_in now)) ≡ true → Holds entry turns before now → Holds entry turns there now)
+      → NeverHolds there → (word : ℕ) → Means word i → WordNeverGoes word Do before
+  instr_not_done narrows none word means entry turns regs action is label holds =
+      let does : holds_in regs i.cond ≡ true =
+      ap (holds_in regs) (sym (action_cond word i action means is)) ∙ done_only (holds_in regs action.cond) label in
+      none entry turns regs (narrows entry turns regs does holds)
+
+  pub instr_not_skipped : ((entry turns now : List ℕ) → condition_holds i.cond (flags_of (r15_in now)) ≡ false → Holds entry turns before now → Holds entry turns there now)
+      → NeverHolds there → (word : ℕ) → Means word i → WordNeverGoes word Skip before
+  instr_not_skipped narrows none word means entry turns regs action is label holds =
+      let fails : holds_in regs i.cond ≡ false =
+      ap (holds_in regs) (sym (action_cond word i action means is)) ∙ skipped_only (holds_in regs action.cond) label in
+      none entry turns regs (narrows entry turns regs fails holds)
 
 -- ## Unallocated words
 

@@ -5,4 +5,5 @@ pub mod Words
 pub mod Table
 pub mod Destinations
 pub mod Outside
+pub mod Endless
 pub mod Transfers

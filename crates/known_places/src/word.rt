@@ -1,8 +1,10 @@
 ghost use Rattle.std.specs.Prelude.{◌≡◌, ◌<◌, ℕ, IfSome, IsTrue};
 ghost use Rattle.arm2_decode.specs.Table.{Means};
+ghost use Rattle.known_places.specs.Endless.{WordNeverGoes};
 ghost use Rattle.known_places.specs.Outside.{WordGoesOutside};
 ghost use Rattle.known_places.specs.Words.{Carries, StaysIn};
 
+use crate::never::never_holds;
 use crate::transfers::{moves_in, moves_outside};
 use arm2_decode::{Instr, decode};
 use bus_ticks::Class;
@@ -98,5 +100,25 @@ pub(crate) fn goes_outside(
     match decode(word) {
         Ok(instr) => instr_goes_outside(class, &instr, address, before),
         Err(_) => None,
+    }
+}
+
+// Whether an instruction is seen not to be done, or not to be passed over, as the label says.
+fn instr_never_goes(instr: &Instr, label: Label, before: &Knowledge) -> bool
+    ensures { IsTrue result → (word : ℕ) → Means word instr.now → WordNeverGoes word label before.now }
+{
+    match label {
+        Label::Do => never_holds(&narrowed(before, instr.cond, true)),
+        Label::Skip => never_holds(&narrowed(before, instr.cond, false)),
+    }
+}
+
+/// Whether the word is seen not to be done, or not to be passed over, as the label says.
+pub(crate) fn never_goes(word: u32, label: Label, before: &Knowledge) -> bool
+    ensures { IsTrue result → WordNeverGoes word label before.now }
+{
+    match decode(word) {
+        Ok(instr) => instr_never_goes(&instr, label, before),
+        Err(_) => false,
     }
 }

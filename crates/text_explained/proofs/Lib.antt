@@ -25,5 +25,6 @@ mod SumLaws
 mod TableLaws
 mod TableRowLaws
 pub mod TallyLaws
+mod TellingLaws
 mod ToldLaws
 pub mod TotalLaws

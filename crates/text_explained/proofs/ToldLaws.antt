@@ -2,6 +2,7 @@
 use Rattle.std.proofs.Common.{◌≡◌, ◌∙◌, ℕ, ◌+◌, ◌*◌, ◌<◌, ◌≤◌, ◌⊎◌, Bool, true, false, cond, List, [], ◌∷◌, length, Option, Some, None, inl, inr, ⊎_elim, refl, sym, ap, subst, arith}
 use Rattle.std.specs.Prelude.{◌==◌, find, if◌then◌else◌, is_some, sum_by, unwrap_or}
 use Rattle.std.specs.List.{range_with_len}
+use Rattle.std.specs.Option.{option_or}
 use Rattle.std.proofs.lemmas.Bool.{cases_lt, eqb-true, lt-ltb, ltb-true}
 use Rattle.std.proofs.lemmas.List.Sums.{sum_by-cons}
 use Rattle.assembler.specs.declared.placed_line.PlacedLine.{PlacedLine}
@@ -95,7 +96,7 @@ module _ (flow : Flow) (walk : List Edge) where
       let some : 0 < sum_by (λ a. ticks_of (taken_at flow walk a)) (words_of line) = omega (arith, more) in
       let w = first_found (λ a. ticks_of (taken_at flow walk a)) (is_passed (taken_at flow walk)) with_ticks (words_of line) some in
       let told : told_at (taken_at flow walk) line ≡ w.0 =
-      ap (λ o. unwrap_or o (unwrap_or (find (λ a. is_some (taken_at flow walk a)) (words_of line)) line.at)) w.1 in
+      ap (λ o. unwrap_or (option_or o (find (λ a. is_some (taken_at flow walk a)) (words_of line))) line.at) w.1 in
       subst (λ a. 0 < passes_of (taken_at flow walk a)) (sym told) (ltb-true 0 (passes_of (taken_at flow walk w.0)) w.2)
 
   -- ## Rows that are folded

@@ -2,8 +2,9 @@
 -- each.
 use Rattle.std.specs.Prelude.{ℕ, ◌+◌, Bool, ◌==◌, if◌then◌else◌, List, [], ◌∷◌, ◌++◌, find}
 use Rattle.std.specs.Prelude.{flat_map, map}
-use Rattle.std.specs.Prelude.{nat_lt, option_and_then, sum_by, unwrap_or, Option, Some, None, is_some}
+use Rattle.std.specs.Prelude.{nat_lt, option_and_then, option_map, sum_by, unwrap_or, Option, Some, None, is_some}
 use Rattle.std.specs.List.{list_any}
+use Rattle.std.specs.Option.{option_or}
 use Rattle.asm_text.specs.Source.{lines_of}
 use Rattle.assembler.specs.Assembles.{addresses_from}
 use Rattle.assembler.specs.declared.placed_line.PlacedLine.{PlacedLine}
@@ -59,16 +60,22 @@ module _ (taken : ℕ → Option Taken) where
   abbrev pub is_passed : ℕ → Bool
   is_passed a = nat_lt 0 (passes_of (taken a))
 
-  -- the word of which the row of a line tells: the first of its words that the walk passes; if it passes
-  -- none, the first at which a place is; and if no place is on the line, the first
+  -- the first of a line's words that the walk passes; if it passes none, the first at which a place is
+  abbrev pub told_word : PlacedLine → Option ℕ
+  told_word line =
+      option_or (find is_passed (words_of line)) (find (λ a. is_some (taken a)) (words_of line))
+
+  -- the word of which the row of a line tells: that one, and if no place is on the line, the first
   abbrev pub told_at : PlacedLine → ℕ
-  told_at line =
-      unwrap_or (find is_passed (words_of line))
-      (unwrap_or (find (λ a. is_some (taken a)) (words_of line)) line.at)
+  told_at line = unwrap_or (told_word line) line.at
 
   -- the ticks at the words
   abbrev pub ticks_in : (from count : ℕ) → ℕ
   ticks_in from count = capped (sum_by (λ a. ticks_of (taken a)) (addresses_from from count))
+
+  -- what is taken at an address, with the ticks of all words of a line
+  abbrev pub taken_on : PlacedLine → ℕ → Option Taken
+  taken_on line a = option_map (λ (t : Taken). record t { ticks = ticks_in line.at line.words }) (taken a)
 
   -- the passes of the word that is told of, how many do it, the ticks of each and of any, and the ticks of
   -- all words; None where no place is on the line

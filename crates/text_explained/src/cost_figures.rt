@@ -4,14 +4,12 @@ ghost use Rattle.std.specs.Ordering.{nat_cmp};
 ghost use Rattle.assembler.specs.Assembles.{addresses_from};
 ghost use Rattle.bus_ticks.specs.declared.space.TheConstants.{SPACE_END};
 ghost use Rattle.text_explained.specs.Costing.{IsCosting, figures_of, first_of};
-ghost use Rattle.text_explained.specs.Table.{costs_of, done_of, first_at, is_any_reached, is_passed};
-ghost use Rattle.text_explained.specs.Table.{line_taken, passes_of, prices_of, row_figures, ticks_in};
-ghost use Rattle.text_explained.specs.Table.{ticks_of};
-ghost use Rattle.text_explained.specs.Table.{told_at};
+ghost use Rattle.text_explained.specs.Table.{first_at, is_passed, line_taken, passes_of, row_figures};
+ghost use Rattle.text_explained.specs.Table.{taken_on, ticks_in, ticks_of, told_at, told_word};
 
 use crate::pricing::{Pricing, priced};
 use crate::starts::{TimedWalk, latest_starts};
-use crate::walk_tally::{Costs, Taken, WalkTally};
+use crate::walk_tally::{Taken, WalkTally};
 use assembler::PlacedLine;
 use loop_bounds::Handler;
 use std::alloc::{AllocError, Global};
@@ -121,33 +119,6 @@ fn passes_of(tally: &WalkTally, at: u32) -> u64
     }
 }
 
-fn done_of(tally: &WalkTally, at: u32) -> u64
-    ensures { result ≡ done_of (get nat_cmp tally.now.by_address at) }
-{
-    match tally.at(at) {
-        Some(taken) => taken.done,
-        None => 0,
-    }
-}
-
-fn costs_of(tally: &WalkTally, at: u32) -> Option<Costs>
-    ensures { result ≡ costs_of (get nat_cmp tally.now.by_address at) }
-{
-    match tally.at(at) {
-        Some(taken) => taken.costs,
-        None => None,
-    }
-}
-
-fn prices_of(tally: &WalkTally, at: u32) -> Option<Costs>
-    ensures { result ≡ prices_of (get nat_cmp tally.now.by_address at) }
-{
-    match tally.at(at) {
-        Some(taken) => taken.prices,
-        None => None,
-    }
-}
-
 /// The ticks that the walk takes at so many words from an address on.
 pub(crate) fn ticks_in(tally: &WalkTally, from: u32, count: usize) -> u64
     requires { from + 4 * count ≤ SPACE_END }
@@ -200,39 +171,52 @@ fn first_reached(tally: &WalkTally, from: u32, count: usize) -> Option<u32>
     None
 }
 
-// Whether the graph has a place at one of so many words from an address on.
-fn is_any_reached(tally: &WalkTally, from: u32, count: usize) -> bool
-    requires { from + 4 * count ≤ SPACE_END }
-    ensures { result ≡ is_any_reached (get nat_cmp tally.now.by_address) from count }
+// The word of a line of which its row tells; None where the graph has no place on the line.
+fn told_word(tally: &WalkTally, line: PlacedLine) -> Option<u32>
+    ensures { result ≡ told_word (get nat_cmp tally.now.by_address) line }
 {
-    first_reached(tally, from, count).is_some()
-}
-
-/// The address of the word of which a line's row tells: the first of its words that the walk passes; if it
-/// passes none, the first at which the graph has a place; and if it has none there, the first.
-pub(crate) fn told_at(tally: &WalkTally, line: PlacedLine) -> u32
-    ensures { result ≡ told_at (get nat_cmp tally.now.by_address) line }
-{
-    if let Some(passed) = first_passed(tally, line.at, line.words) {
+    let passed = first_passed(tally, line.at, line.words);
+    if passed.is_some() {
         return passed;
     }
-    first_reached(tally, line.at, line.words).unwrap_or(line.at)
+    first_reached(tally, line.at, line.words)
 }
 
-/// What the walk takes on a line: it passes the line as often as the word that is told of. None where the
-/// graph has no place on the line.
-pub(crate) fn line_taken(tally: &WalkTally, line: PlacedLine) -> Option<Taken>
-    ensures { result ≡ line_taken (get nat_cmp tally.now.by_address) line }
+// What the walk takes at an address, with the ticks of all words of a line.
+fn taken_on(tally: &WalkTally, line: PlacedLine, at: u32) -> Option<Taken>
+    ensures { result ≡ taken_on (get nat_cmp tally.now.by_address) line at }
 {
-    if !is_any_reached(tally, line.at, line.words) {
-        return None;
-    }
-    let told = told_at(tally, line);
+    let taken = tally.at(at)?;
     Some(Taken {
-        passes: passes_of(tally, told),
-        done: done_of(tally, told),
         ticks: ticks_in(tally, line.at, line.words),
-        costs: costs_of(tally, told),
-        prices: prices_of(tally, told),
+        ..taken
     })
+}
+
+/// What the row of a line tells.
+#[derive(Clone, Copy)]
+pub(crate) struct Told {
+    /// The address of the word of which it tells: the first of the line's words that the walk passes; if it
+    /// passes none, the first at which the graph has a place; and if it has none there, the first.
+    pub(crate) at: u32,
+    /// What the walk takes on the line: it passes the line as often as that word. None where the graph has no
+    /// place on the line.
+    pub(crate) taken: Option<Taken>,
+}
+
+/// What the row of a line tells.
+pub(crate) fn told_of(tally: &WalkTally, line: PlacedLine) -> Told
+    ensures at { result.at ≡ told_at (get nat_cmp tally.now.by_address) line }
+    ensures taken { result.taken ≡ line_taken (get nat_cmp tally.now.by_address) line }
+{
+    match told_word(tally, line) {
+        Some(at) => Told {
+            at,
+            taken: taken_on(tally, line, at),
+        },
+        None => Told {
+            at: line.at,
+            taken: None,
+        },
+    }
 }

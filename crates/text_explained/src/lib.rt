@@ -47,6 +47,7 @@ pub use law::{
 pub use links::{Overwrite, lost_links};
 pub use listed_rows::walk_rows;
 pub use named_words::named_rows;
+pub use part_sums::CountedWalk;
 pub use pricing::{Granted, Pricing, priced, put_pricing};
 pub use printed_rows::put_each;
 pub use routines::routine_sums;

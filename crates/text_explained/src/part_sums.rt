@@ -69,12 +69,14 @@ pub(crate) trait Parts {
             (λ parts. (n : ℕ) → contains nat_cmp parts n ≡ inside self.now n edge.now) };
 }
 
-/// A greatest walk of a graph, and how often it takes each edge.
+/// A greatest walk of a graph, and how often it takes each edge, by
+/// [`edge_counts`](walk_counts::edge_counts).
 #[derive(Clone, Copy)]
-pub(crate) struct Counted<'a> {
-    pub(crate) graph: &'a Graph,
-    pub(crate) longest: &'a Longest,
-    pub(crate) counts: &'a [u64],
+pub struct CountedWalk<'a> {
+    pub graph: &'a Graph,
+    pub longest: &'a Longest,
+    /// By the numbers of the graph's edges.
+    pub counts: &'a [u64],
 }
 
 impl PartSums {
@@ -132,7 +134,7 @@ impl PartSums {
     /// `AllocError`: an allocation failed.
     pub(crate) fn of_walk<P: Parts>(
         alloc: Global,
-        walk: Counted<'_>,
+        walk: CountedWalk<'_>,
         parts: &P,
     ) -> Result<PartSums, AllocError>
         requires { AreCounts walk.graph.now.edges (unfolded walk.longest.now.walk) walk.counts.now }

@@ -183,21 +183,24 @@ fn put_cell_text(out: &mut Vec<u8>, line: &TableLine<'_>, column: Column) -> Res
     }
 }
 
-// What a line has in a column.
-fn cell_text(alloc: Global, line: &TableLine<'_>, column: Column) -> Result<Vec<u8>, AllocError>
-    ensures { IfOk result (λ text. text.items ≡ cell_text line.now column) }
+// Makes a buffer what a line has in a column. One buffer serves many cells, so that each takes no memory anew.
+fn fill_cell(buffer: &mut Vec<u8>, line: &TableLine<'_>, column: Column) -> Result<(), AllocError>
+    ensures { OnOk result (buffer.new.items ≡ cell_text line.now column) }
 {
-    let mut text = Vec::new(alloc);
-    put_cell_text(&mut text, line, column)?;
-    Ok(text)
+    buffer.clear();
+    put_cell_text(buffer, line, column)
 }
 
 // How wide that is.
-fn cell_width(alloc: Global, line: &TableLine<'_>, column: Column) -> Result<usize, AllocError>
+fn cell_width(
+    buffer: &mut Vec<u8>,
+    line: &TableLine<'_>,
+    column: Column,
+) -> Result<usize, AllocError>
     ensures { IfOk result (λ width. width ≡ length (cell_text line.now column)) }
 {
-    let text = cell_text(alloc, line, column)?;
-    Ok(text.len())
+    fill_cell(buffer, line, column)?;
+    Ok(buffer.len())
 }
 
 fn wider(a: usize, b: usize) -> usize
@@ -210,9 +213,10 @@ fn wider(a: usize, b: usize) -> usize
 fn widest(alloc: Global, lines: &[TableLine<'_>], column: Column) -> Result<usize, AllocError>
     ensures { IfOk result (λ width. width ≡ widest lines.now column) }
 {
+    let mut buffer = Vec::new(alloc);
     let mut width = 0;
     for line in lines {
-        width = wider(width, cell_width(alloc, line, column)?);
+        width = wider(width, cell_width(&mut buffer, line, column)?);
     }
     Ok(width)
 }
@@ -237,6 +241,7 @@ pub(crate) fn widths_of(alloc: Global, lines: &[TableLine<'_>]) -> Result<Widths
 // Adds what a line has in a column, where the column is.
 fn put_cell(
     out: &mut Vec<u8>,
+    buffer: &mut Vec<u8>,
     widths: &Widths,
     line: &TableLine<'_>,
     column: Column,
@@ -244,8 +249,8 @@ fn put_cell(
     ensures { OnOk result
         (out.new.items ≡ out.old.items ++ in_column widths.now column (cell_text line.now column)) }
 {
-    let text = cell_text(*out.allocator(), line, column)?;
-    put_in_column(out, widths, column, &text)
+    fill_cell(buffer, line, column)?;
+    put_in_column(out, widths, column, buffer)
 }
 
 // Adds what a line has in some columns.
@@ -257,8 +262,9 @@ fn put_cells(
 ) -> Result<(), AllocError>
     ensures { OnOk result (out.new.items ≡ out.old.items ++ cells widths.now line.now columns.now) }
 {
+    let mut buffer = Vec::new(*out.allocator());
     for column in columns {
-        put_cell(out, widths, line, *column)?;
+        put_cell(out, &mut buffer, widths, line, *column)?;
     }
     Ok(())
 }

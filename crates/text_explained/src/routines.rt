@@ -6,6 +6,8 @@ ghost use Rattle.std.specs.List.{list_any};
 ghost use Rattle.std.specs.Ordering.{nat_cmp};
 ghost use Rattle.asm_text.specs.Appended.{Appends};
 ghost use Rattle.longest_walk.specs.Folded.{unfolded};
+ghost use Rattle.sources.specs.Lines.{AreLines};
+ghost use Rattle.sources.specs.declared.read.Source.{Source};
 ghost use Rattle.text_rows.specs.Rows.{AreRows};
 ghost use Rattle.walk_counts.specs.Counts.{AreCounts};
 ghost use Rattle.text_explained.specs.PartSums.{in_group};
@@ -13,16 +15,13 @@ ghost use Rattle.text_explained.specs.Sums.{AreRoutineSums, begun_row, calls_fro
 ghost use Rattle.text_explained.specs.Sums.{is_site, routine_row};
 
 use crate::part_groups::{PartGroups, insert_if};
-use crate::part_sums::{Counted, PartSum, PartSums, Parts};
+use crate::part_sums::{CountedWalk, PartSum, PartSums, Parts};
 use crate::sums::put_sum;
 use control_flow::{Edge, Graph, Place};
-use longest_walk::Longest;
-use loop_bounds::Handler;
-use sources::Source;
+use image::Image;
 use std::alloc::{AllocError, Global};
 use std::collections::{BTreeMap, BTreeSet};
 use text_rows::{SourceLine, section};
-use walk_counts::edge_counts;
 
 // The calls inside of which a place is.
 fn calls_of(place: &Place) -> &[u32]
@@ -137,7 +136,7 @@ fn put_begun(
 fn put_routines(
     out: &mut Vec<u8>,
     lines: &BTreeMap<u32, SourceLine<'_>>,
-    walk: Counted<'_>,
+    walk: CountedWalk<'_>,
     routines: &Routines,
     words: &[(u32, u32)],
 ) -> Result<(), AllocError>
@@ -160,32 +159,27 @@ fn put_routines(
 /// What a greatest walk takes of each routine, by its address: the calls of it that the walk makes, the ticks
 /// inside of them, also at the words of what it calls in turn, and what part of the bound these are, with the
 /// label of its address, or the number. Where a word may call several routines, what it calls counts for each
-/// that the walk calls. No text where it calls none.
+/// that the walk calls. The lines are those of a source by the addresses of their words. No text where the
+/// walk calls none.
 ///
 /// # Errors
 ///
 /// An allocation failed.
 pub fn routine_sums(
     alloc: Global,
-    source: &Source<'_>,
-    handler: &Handler<'_>,
-    longest: &Longest,
+    lines: &BTreeMap<u32, SourceLine<'_>>,
+    image: &Image,
+    walk: CountedWalk<'_>,
 ) -> Result<Vec<u8>, AllocError>
-    ensures { IfOk result
-        (λ text. AreRoutineSums source.now handler.now.image.now handler.now.graph
-        (unfolded longest.now.walk) longest.now.bound text.items) }
+    requires { AreCounts walk.graph.now.edges (unfolded walk.longest.now.walk) walk.counts.now }
+    ensures { (source : Source) → AreLines source lines.now → IfOk result
+        (λ text. AreRoutineSums source image.now walk.entry.graph.now
+        (unfolded walk.entry.longest.now.walk) walk.entry.longest.now.bound text.items) }
 {
-    let lines = source.lines(alloc)?;
-    let counts = edge_counts(alloc, &handler.graph, &longest.walk)?;
-    let routines = Routines::of_graph(alloc, &handler.graph)?;
-    let words = handler.image.listed(alloc)?;
-    let walk = Counted {
-        graph: &handler.graph,
-        longest,
-        counts: &counts,
-    };
+    let routines = Routines::of_graph(alloc, walk.graph)?;
+    let words = image.listed(alloc)?;
     let mut rows = Vec::new(alloc);
-    put_routines(&mut rows, &lines, walk, &routines, &words)?;
+    put_routines(&mut rows, lines, walk, &routines, &words)?;
     section(
         alloc,
         b"\nRoutines, with what they call:\n   calls     ticks   share  routine\n",

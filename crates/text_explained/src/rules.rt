@@ -93,6 +93,9 @@ pub(crate) fn done_coverages(alloc: Global, handler: &Handler<'_>) -> Result<Vec
         (λ counts. AreDoneCoverages handler.now.image.now handler.now.statement handler.now.graph
         counts.items) }
 {
+    if handler.statement.rules().is_empty() {
+        return Ok(Vec::new(alloc));
+    }
     let done = addresses_left(alloc, &handler.graph, EdgeKind::CarriesOut)?;
     let addresses = sorted(alloc, &done)?;
     coverages(alloc, handler, &addresses)

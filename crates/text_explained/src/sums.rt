@@ -3,6 +3,8 @@
 ghost use Rattle.std.specs.Prelude.{◌≡◌, ◌++◌, IfOk, OnOk};
 ghost use Rattle.asm_text.specs.Appended.{Appends};
 ghost use Rattle.longest_walk.specs.Folded.{unfolded};
+ghost use Rattle.sources.specs.Lines.{AreLines};
+ghost use Rattle.sources.specs.declared.read.Source.{Source};
 ghost use Rattle.text_rows.specs.Addresses.{name_text};
 ghost use Rattle.text_rows.specs.Rows.{AreRows};
 ghost use Rattle.text_rows.specs.WordLines.{label_at};
@@ -11,14 +13,11 @@ ghost use Rattle.text_explained.specs.Sums.{AreLoopSums, loop_sum, sum_row};
 
 use crate::cost_columns::{put_ending, share_text};
 use crate::loop_table::LoopTable;
-use crate::part_sums::{Counted, PartSum, PartSums};
-use longest_walk::Longest;
+use crate::part_sums::{CountedWalk, PartSum, PartSums};
 use loop_bounds::Handler;
-use sources::Source;
 use std::alloc::{AllocError, Global};
 use std::collections::BTreeMap;
 use text_rows::{SourceLine, put, put_labelled, put_number, section};
-use walk_counts::edge_counts;
 
 // Adds the label of an address in quotes, or its number.
 fn put_name(
@@ -58,7 +57,7 @@ fn put_loops(
     out: &mut Vec<u8>,
     lines: &BTreeMap<u32, SourceLine<'_>>,
     table: &LoopTable<'_>,
-    walk: Counted<'_>,
+    walk: CountedWalk<'_>,
 ) -> Result<(), AllocError>
     requires { AreCounts walk.graph.now.edges (unfolded walk.longest.now.walk) walk.counts.now }
     ensures { OnOk result
@@ -78,33 +77,27 @@ fn put_loops(
 
 /// What a greatest walk takes of each stated loop, in the order of the statement: its turns, which are how
 /// often the walk goes back to its header, the ticks at its words and at those of the routines that it
-/// calls, and what part of the bound these are, with the label of its header, or the address. No text where
-/// no loop is stated.
+/// calls, and what part of the bound these are, with the label of its header, or the address. The lines are
+/// those of a source by the addresses of their words. No text where no loop is stated.
 ///
 /// # Errors
 ///
 /// An allocation failed.
 pub fn loop_sums(
     alloc: Global,
-    source: &Source<'_>,
+    lines: &BTreeMap<u32, SourceLine<'_>>,
     handler: &Handler<'_>,
-    longest: &Longest,
+    walk: CountedWalk<'_>,
 ) -> Result<Vec<u8>, AllocError>
-    ensures { IfOk result
-        (λ text. AreLoopSums source.now handler.now.statement.loops handler.now.graph
-        (unfolded longest.now.walk) longest.now.bound text.items) }
+    requires { AreCounts walk.graph.now.edges (unfolded walk.longest.now.walk) walk.counts.now }
+    ensures { (source : Source) → AreLines source lines.now → IfOk result
+        (λ text. AreLoopSums source handler.now.statement.loops walk.entry.graph.now
+        (unfolded walk.entry.longest.now.walk) walk.entry.longest.now.bound text.items) }
 {
     let loops = handler.statement.loops();
-    let lines = source.lines(alloc)?;
-    let counts = edge_counts(alloc, &handler.graph, &longest.walk)?;
-    let walk = Counted {
-        graph: &handler.graph,
-        longest,
-        counts: &counts,
-    };
     let table = LoopTable::new(alloc, loops.apart(), loops.list())?;
     let mut rows = Vec::new(alloc);
-    put_loops(&mut rows, &lines, &table, walk)?;
+    put_loops(&mut rows, lines, &table, walk)?;
     section(
         alloc,
         b"\nLoops, with what they call:\n   turns     ticks   share  header\n",

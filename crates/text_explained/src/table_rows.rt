@@ -5,7 +5,7 @@ ghost use Rattle.asm_text.specs.Source.{lines_of};
 ghost use Rattle.text_explained.specs.Costing.{figures_of};
 ghost use Rattle.text_explained.specs.Table.{line_row, line_rows, row_of, source_rows, word_row};
 
-use crate::cost_figures::{Costing, RowFigures, line_taken, told_at};
+use crate::cost_figures::{Costing, RowFigures, told_of};
 use asm_text::first_line;
 use assembler::PlacedLine;
 use sources::{Source, SourceText};
@@ -44,11 +44,10 @@ fn add_line<'a>(
     if placed.words == 0 {
         return Ok(());
     }
-    let at = told_at(&costing.tally, placed);
-    let figures = costing.figures(line_taken(&costing.tally, placed), at);
+    let told = told_of(&costing.tally, placed);
     rows.push(TableRow {
-        at,
-        figures,
+        at: told.at,
+        figures: costing.figures(told.taken, told.at),
         line: RowLine::Text(line),
     })?;
     Ok(())

@@ -1,12 +1,13 @@
 ghost use Rattle.std.specs.Prelude.{◌≡◌, IfOk, OnOk};
 ghost use Rattle.longest_walk.specs.Folded.{unfolded};
+ghost use Rattle.walk_counts.specs.Counts.{AreCounts};
 ghost use Rattle.text_savings.specs.Carried.{Adds, AreTimes, times_in};
 
-use control_flow::{Edge, Graph, Label, Place};
-use longest_walk::FoldedWalk;
+use control_flow::{Edge, Label, Place};
 use std::alloc::{AllocError, Global};
 use std::collections::BTreeMap;
-use walk_counts::{capped_sum, edge_counts};
+use text_explained::CountedWalk;
+use walk_counts::capped_sum;
 
 /// How often the word at an address is carried out, capped at 2^64 - 1.
 pub(crate) fn times_in(times: &BTreeMap<u32, u64>, at: u32) -> u64
@@ -30,19 +31,19 @@ fn add(times: &mut BTreeMap<u32, u64>, edge: &Edge, count: u64) -> Result<(), Al
     Ok(())
 }
 
-/// How often the walk carries out the word at each address, in time linear in the walk as it is folded.
-/// `AllocError`: an allocation failed.
+/// How often the walk carries out the word at each address. `AllocError`: an allocation failed.
 pub(crate) fn times_carried_out(
     alloc: Global,
-    graph: &Graph,
-    walk: &FoldedWalk,
+    walk: CountedWalk<'_>,
 ) -> Result<BTreeMap<u32, u64>, AllocError>
-    ensures { IfOk result (AreTimes graph.now.edges (unfolded walk.now)) }
+    requires { AreCounts walk.graph.now.edges (unfolded walk.longest.now.walk) walk.counts.now }
+    ensures { IfOk result
+        (AreTimes walk.entry.graph.now.edges (unfolded walk.entry.longest.now.walk)) }
 {
-    let counts = edge_counts(alloc, graph, walk)?;
+    let edges = walk.graph.edges();
     let mut times = BTreeMap::new(alloc);
-    for number in 0..graph.edges().len() {
-        add(&mut times, &graph.edges()[number], counts[number])?;
+    for number in 0..edges.len() {
+        add(&mut times, &edges[number], walk.counts[number])?;
     }
     Ok(times)
 }

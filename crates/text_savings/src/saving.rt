@@ -1,5 +1,6 @@
 ghost use Rattle.std.specs.Prelude.{◌≡◌, ◌++◌, IfOk, OnOk};
 ghost use Rattle.longest_walk.specs.Folded.{unfolded};
+ghost use Rattle.walk_counts.specs.Counts.{AreCounts};
 ghost use Rattle.text_savings.specs.Carried.{times_in};
 ghost use Rattle.asm_text.specs.Appended.{Appends};
 ghost use Rattle.text_rows.specs.Rows.{AreRows};
@@ -10,12 +11,12 @@ use crate::carried::{times_carried_out, times_in};
 use crate::gains::{Gain, Refinement, leave_gain, operation_gain};
 use arm2_decode::decode;
 use bus_ticks::Profile;
-use longest_walk::Longest;
 use loop_bounds::Handler;
 use statement::Statement;
 use std::alloc::{AllocError, Global};
 use std::cmp::Reverse;
 use std::collections::BTreeMap;
+use text_explained::CountedWalk;
 use walk_counts::capped_sum;
 
 /// Whose price would be less.
@@ -115,15 +116,16 @@ fn saved_at(
 fn found_savings(
     alloc: Global,
     handler: &Handler<'_>,
-    longest: &Longest,
+    walk: CountedWalk<'_>,
 ) -> Result<Vec<Saving>, AllocError>
+    requires { AreCounts walk.graph.now.edges (unfolded walk.longest.now.walk) walk.counts.now }
     ensures { IfOk result
-        (λ found. AreFound handler.now.image.now handler.now.statement handler.now.graph
-        (unfolded longest.now.walk) found.items) }
+        (λ found. AreFound handler.now.image.now handler.now.statement walk.entry.graph.now
+        (unfolded walk.entry.longest.now.walk) found.items) }
 {
-    let times = times_carried_out(alloc, &handler.graph, &longest.walk)?;
+    let times = times_carried_out(alloc, walk)?;
     let words = handler.image.listed(alloc)?;
-    let profile = handler.graph.profile();
+    let profile = walk.graph.profile();
     let carried = Carried {
         statement: &handler.statement,
         profile: &profile,
@@ -153,13 +155,14 @@ fn found_savings(
 pub(crate) fn savings(
     alloc: Global,
     handler: &Handler<'_>,
-    longest: &Longest,
+    walk: CountedWalk<'_>,
 ) -> Result<Vec<Saving>, AllocError>
+    requires { AreCounts walk.graph.now.edges (unfolded walk.longest.now.walk) walk.counts.now }
     ensures { IfOk result
-        (λ list. AreSavings handler.now.image.now handler.now.statement handler.now.graph
-        (unfolded longest.now.walk) list.items) }
+        (λ list. AreSavings handler.now.image.now handler.now.statement walk.entry.graph.now
+        (unfolded walk.entry.longest.now.walk) list.items) }
 {
-    let mut list = found_savings(alloc, handler, longest)?;
+    let mut list = found_savings(alloc, handler, walk)?;
     list.sort_by_key(|saving| Reverse(saving.ticks))?;
     Ok(list)
 }

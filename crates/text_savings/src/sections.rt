@@ -1,5 +1,7 @@
 ghost use Rattle.std.specs.Prelude.{◌≡◌, ◌++◌, ℕ, List, IfOk, OnOk};
 ghost use Rattle.longest_walk.specs.Folded.{unfolded};
+ghost use Rattle.sources.specs.Lines.{AreLines};
+ghost use Rattle.walk_counts.specs.Counts.{AreCounts};
 ghost use Rattle.asm_text.specs.Appended.{Appends};
 ghost use Rattle.text_rows.specs.Rows.{AreRows};
 ghost use Rattle.text_savings.specs.Sections.{AreSavingRows, IsImageEnd, IsLineEnd, IsSavingRow};
@@ -10,12 +12,12 @@ ghost use Rattle.text_rows.specs.WordLines.{numbered_at};
 
 use crate::gains::{Operands, Refinement};
 use crate::saving::{Saving, Subject, savings, together};
-use longest_walk::Longest;
 use loop_bounds::Handler;
 use sources::{Source, SourceText};
 use statement::class_name;
 use std::alloc::{AllocError, Global};
 use std::collections::BTreeMap;
+use text_explained::CountedWalk;
 use text_rows::{
     NumberedLine, SourceLine, put, put_address_row, put_named_row, put_number, put_right,
     put_shown_row, section,
@@ -140,14 +142,17 @@ fn rows_of<E: RowEnds>(alloc: Global, ends: &E, list: &[Saving]) -> Result<Vec<u
 }
 
 // The rows by the lines of a text, or by the words of an image.
-fn source_rows(alloc: Global, source: &Source<'_>, list: &[Saving]) -> Result<Vec<u8>, AllocError>
+fn source_rows(
+    alloc: Global,
+    source: &Source<'_>,
+    lines: &BTreeMap<u32, SourceLine<'_>>,
+    list: &[Saving],
+) -> Result<Vec<u8>, AllocError>
+    requires { AreLines source.now lines.now }
     ensures { IfOk result (λ rows. AreSavingRows source.now list.now rows.items) }
 {
     match &source.text {
-        SourceText::Lines(_, _) => {
-            let lines = source.lines(alloc)?;
-            rows_of(alloc, &lines, list)
-        }
+        SourceText::Lines(_, _) => rows_of(alloc, lines, list),
         SourceText::Image => rows_of(alloc, &ByWords, list),
     }
 }
@@ -175,7 +180,8 @@ fn put_total(out: &mut Vec<u8>, list: &[Saving]) -> Result<(), AllocError>
 /// [`savings`], with the ticks, the better entry, and the address, the number and the text of its line,
 /// or, of an image, the address, the word and the line that [`disassemble`](assembler::disassemble) shows.
 /// A row ends at column 80. Below two rows or more stands what all of them save together at most. Nothing
-/// where there are no savings. Words are those of the handler's image.
+/// where there are no savings. Words are those of the handler's image, and the lines those of the source by
+/// the addresses of their words, as [`Source::lines`] makes them.
 ///
 /// # Errors
 ///
@@ -183,15 +189,18 @@ fn put_total(out: &mut Vec<u8>, list: &[Saving]) -> Result<(), AllocError>
 pub fn savings_text(
     alloc: Global,
     source: &Source<'_>,
+    lines: &BTreeMap<u32, SourceLine<'_>>,
     handler: &Handler<'_>,
-    longest: &Longest,
+    walk: CountedWalk<'_>,
 ) -> Result<Vec<u8>, AllocError>
+    requires lines { AreLines source.now lines.now }
+    requires counts { AreCounts walk.graph.now.edges (unfolded walk.longest.now.walk) walk.counts.now }
     ensures { IfOk result
-        (λ text. IsSavingsText source.now handler.now.image.now handler.now.statement handler.now.graph
-        (unfolded longest.now.walk) text.items) }
+        (λ text. IsSavingsText source.now handler.now.image.now handler.now.statement walk.entry.graph.now
+        (unfolded walk.entry.longest.now.walk) text.items) }
 {
-    let list = savings(alloc, handler, longest)?;
-    let mut rows = source_rows(alloc, source, &list)?;
+    let list = savings(alloc, handler, walk)?;
+    let mut rows = source_rows(alloc, source, lines, &list)?;
     put_total(&mut rows, &list)?;
     section(alloc, HEADING, &rows)
 }

@@ -1,10 +1,11 @@
-use Rattle.std.proofs.Common.{◌∙◌, List, Option, ap, subst, sym}
+use Rattle.std.proofs.Common.{◌∙◌, Bool, List, Option, ap, subst, sym}
 use Rattle.std.specs.Prelude.{IfSome}
 use Rattle.control_flow.specs.Graph.{IsFlowGraph}
 use Rattle.image.specs.Image.{Words}
 use Rattle.handlers.specs.Report.{BeforeOutput, IsRefused}
 use Rattle.handlers.proofs.HandlerLemmas.{refused_as}
 use Rattle.known_places.specs.Destinations.{AreDestinations}
+use Rattle.known_places.specs.Endless.{AreEndless}
 use Rattle.known_places.specs.OnTrust.{Justifies}
 use Rattle.known_places.specs.Outside.{AreOutside}
 use Rattle.known_words.specs.declared.words.Range.{Range}
@@ -38,14 +39,17 @@ returns-clause-shows c =
     let left = seen.left in
     let goes = seen.destinations.items in
     let outside = seen.outside.items in
+    let endless = seen.endless.items in
     let rows = c.in_ok-rows.rows.items in
     justified j.source.now j.statement.now c.args.profile.now read c.requires.said h.statement h.graph h.tree c.requires.loops c.requires.tree c.run_law.ensures
-    j.given.now j.all c.is_enough.result left goes outside rows found c.in_ok-text.text.items c.in_ok-found.ensures.longest c.in_ok-found.ensures.allowed
+    j.given.now j.all c.is_enough.result left goes outside endless rows found c.in_ok-text.text.items c.in_ok-found.ensures.longest c.in_ok-found.ensures.allowed
     (subst (λ (w : Words). IfSome left (Justifies w h.statement h.graph j.given.now)) c.requires.image c.in_ok-seen.ensures.left)
     (subst (λ (w : Words). AreDestinations w h.statement h.graph h.tree j.given.now goes) c.requires.image c.in_ok-seen.ensures.goes)
     (subst (λ (w : Words). AreOutside w h.statement h.graph h.tree j.given.now outside) c.requires.image c.in_ok-seen.ensures.outside)
-    (subst (λ (w : Words). AreStatedRows w h.statement h.graph h.tree left goes outside rows) c.requires.image
-    (subst (λ (ds : List Destination). AreStatedRows h.image.now h.statement h.graph h.tree left ds outside rows) c.deref.ensures.value
-    (subst (λ (os : List (Option Range)). AreStatedRows h.image.now h.statement h.graph h.tree left c.deref.result.now os rows) c.deref-2.ensures.value c.in_ok-rows.ensures)))
-    (subst (λ (rs : List Row). IsJustifyText read j.given.now left rs found.bound c.args.profile.now.burst c.in_ok-text.text.items) c.deref-3.ensures.value c.in_ok-text.ensures)
-    (c.is_enough.ensures ∙ ap (is_enough j.all) c.deref-4.ensures.value)
+    (subst (λ (w : Words). AreEndless w h.statement h.graph h.tree j.given.now endless) c.requires.image c.in_ok-seen.ensures.endless)
+    (subst (λ (w : Words). AreStatedRows w h.statement h.graph h.tree left goes outside endless rows) c.requires.image
+    (subst (λ (ds : List Destination). AreStatedRows h.image.now h.statement h.graph h.tree left ds outside endless rows) c.deref.ensures.value
+    (subst (λ (os : List (Option Range)). AreStatedRows h.image.now h.statement h.graph h.tree left c.deref.result.now os endless rows) c.deref-2.ensures.value
+    (subst (λ (bs : List Bool). AreStatedRows h.image.now h.statement h.graph h.tree left c.deref.result.now c.deref-2.result.now bs rows) c.deref-3.ensures.value c.in_ok-rows.ensures))))
+    (subst (λ (rs : List Row). IsJustifyText read j.given.now left rs found.bound c.args.profile.now.burst c.in_ok-text.text.items) c.deref-4.ensures.value c.in_ok-text.ensures)
+    (c.is_enough.ensures ∙ ap (is_enough j.all) c.deref-5.ensures.value)

@@ -10,7 +10,7 @@ use Rattle.text_savings.proofs.sections.savings_text.Goals as goal
 pub returns : goal.returns
 returns c =
     let handler = c.args.handler.now in
-    let AreFor : List Saving → Type 0 = AreSavings handler.image.now handler.statement handler.graph (unfolded c.args.longest.now.walk) in
+    let AreFor : List Saving → Type 0 = AreSavings handler.image.now handler.statement c.args.walk.graph.now (unfolded c.args.walk.longest.now.walk) in
     IfOk-weaker c.section.result _ _
     (λ text is. record {
       list = c.deref.result.now;

@@ -4,11 +4,11 @@ use Rattle.text_rows.specs.WordLines.{numbered_at}
 use Rattle.text_savings.proofs.RowLaws.{by_lines, by_words}
 use Rattle.text_savings.proofs.sections.source_rows.Goals as goal
 
-pub returns-in_ok-lines-in-Lines : goal.returns-in_ok-lines-in-Lines
-returns-in_ok-lines-in-Lines c =
+pub returns-in-Lines : goal.returns-in-Lines
+returns-in-Lines c =
     let source = c.args.source.now in
     IfOk-weaker c.rows_of.result _ _
-    (λ rows. by_lines source.text c.in-Lines.field-0 c.in-Lines.field-1 (numbered_at c.in_ok-lines-in-Lines.lines) (line_of source) c.args.list.now rows.items c.in-Lines.is c.in_ok-lines-in-Lines.ensures.each)
+    (λ rows. by_lines source.text c.in-Lines.field-0 c.in-Lines.field-1 (numbered_at c.args.lines.now) (line_of source) c.args.list.now rows.items c.in-Lines.is c.requires.each)
     c.rows_of.ensures
 
 pub returns-in-Image : goal.returns-in-Image
