@@ -1,0 +1,5 @@
+ MOV R0,#-1
+ CMP R1,#-4
+ AND R0,R0,#&FFFFFF00
+ ADDS R2,R2,#-8
+ MOV R0,#&FF0

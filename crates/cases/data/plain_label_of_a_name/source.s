@@ -1,0 +1,2 @@
+n EQU 4
+n MOV R0,R0

@@ -1,0 +1,2 @@
+n EQU m
+m EQU 1

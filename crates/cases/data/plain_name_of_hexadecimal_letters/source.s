@@ -1,0 +1,3 @@
+A0 EQU 16
+ B &A0
+ MOV R0,#A0
