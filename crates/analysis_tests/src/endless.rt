@@ -156,37 +156,6 @@ turn    B     again
 out     SUBS  PC,R14,#4
 ";
 
-// The same, beside a way out that no condition opens.
-const STAYS_BY_NEVER: &[u8] = b"
-        LDR   R0,[R1]
-        TST   R0,#1
-        BNE   out
-again   STR   R0,[R1]
-        BNV   out
-turn    B     again
-out     SUBS  PC,R14,#4
-";
-
-// Entered with 3 or with 5: two turns back, or four.
-const TWO_STARTS: &[u8] = b"
-        MOV   R0,#3
-        TST   R1,#1
-        MOVNE R0,#5
-again   SUBS  R0,R0,#1
-turn    BNE   again
-        SUBS  PC,R14,#4
-";
-
-// Entered with 3 or with 1, from which it turns not at all.
-const ONE_AT_ONCE: &[u8] = b"
-        MOV   R0,#3
-        TST   R1,#1
-        MOVNE R0,#1
-again   SUBS  R0,R0,#1
-turn    BNE   again
-        SUBS  PC,R14,#4
-";
-
 // The outer loop turns back twice, and the inner one each time three times.
 const NESTED: &[u8] = b"
         MOV   R1,#3
@@ -292,10 +261,6 @@ fn ways_out_that_are_not_closed(rt: HostRuntime) -> Result<(), Fail> {
     assert!(rt; endless(alloc, BY_MEMORY, DOWN_1, &[])?.is_empty());
     assert!(rt; endless(alloc, MASKED, DOWN_0, &[])?.is_empty());
     assert!(rt; endless(alloc, STAYS, DOWN_3, &[])?.as_slice() == [0x800C].as_slice());
-    assert!(rt; endless(alloc, STAYS_BY_NEVER, DOWN_3, &[])?.as_slice() == [0x800C].as_slice());
-    assert!(rt; endless(alloc, TWO_STARTS, DOWN_1, &[])?.as_slice() == [0x800C].as_slice());
-    assert!(rt; endless(alloc, TWO_STARTS, DOWN_2, &[])?.is_empty());
-    assert!(rt; endless(alloc, ONE_AT_ONCE, DOWN_1, &[])?.is_empty());
     Ok(())
 }
 
