@@ -210,25 +210,26 @@ def long_file(name):
 
 def file_rows(name):
     """What takes the place of a file to read: its name, how it is made, what bash is told, and the
-    refusal with what `explain` says of the file; None: it is read."""
+    refusal with what `explain` says of the file; None: it is read. Names have a `/`, as `draft` takes others for
+    labels."""
     pipe = f"mkfifo pipe; cat {name} >pipe & exec {{}}"
     cannot, long = (FAILED, "cannot be read"), (TOO_LONG, f"more than {MOST} bytes")
     rows = [
-        ("a file that is missing", "missing", None, "", (FAILED, "no such file")),
+        ("a file that is missing", "./missing", None, "", (FAILED, "no such file")),
         (
             "a folder",
-            "folder",
+            "./folder",
             lambda folder: (folder / "folder").mkdir(),
             "",
             (FAILED, "is a directory"),
         ),
         ("a name within a file", "/dev/null/x", None, "", cannot),
-        ("a link to itself", "loop", lambda folder: (folder / "loop").symlink_to("loop"), "", cannot),
-        ("a name of 5,000 letters", "n" * 5000, None, "", cannot),
+        ("a link to itself", "./loop", lambda folder: (folder / "loop").symlink_to("loop"), "", cannot),
+        ("a name of 5,000 letters", "./" + "n" * 5000, None, "", cannot),
         ("a file that fails when it is read", "/proc/self/mem", None, "", cannot),
-        ("a file of 16,777,217 bytes", "long", long_file("long"), "", long),
+        ("a file of 16,777,217 bytes", "./long", long_file("long"), "", long),
         ("a file that never ends", "/dev/zero", None, "", long),
-        ("a pipe", "pipe", None, pipe, None),
+        ("a pipe", "./pipe", None, pipe, None),
     ]
     if as_nobody():
         rights = (FAILED, "permission denied")
