@@ -43,7 +43,8 @@ def stream_rows(command):
     """What is done to a command's streams, and what it has to answer."""
     outcome = command.outcome
     right, silent = Is(outcome.status, outcome.out, outcome.err), Is(outcome.status, outcome.out)
-    unprinted = FAILED if outcome.out else right
+    failed = Announced(FAILED) if "--progress" in command.words else FAILED
+    unprinted = failed if outcome.out else right
     unseen = Is(4 if outcome.out else outcome.status)
     is_debug = command.words[:1] == ["debug"]
     return [
