@@ -10,7 +10,7 @@ VISITS, MACHINES, PROFILES, CERTIFICATES = "Visits", "Machine files", "Cycle pro
 DRAFTS, EDGES, RESPONSES, FACTS = "Drafts", "Edges", "Response times", "Files of facts"
 DIALECT = "Sources for ObjAsm, with the line"
 
-OF_SOURCE = (ANY, SOURCES, IMAGES)
+OF_SOURCE = (ANY, SOURCES, DIALECT, IMAGES)
 OF_HANDLER = (*OF_SOURCE, PROFILES, STATEMENTS, GRAPH, LOOPS)
 
 # The sections of REFUSALS.md whose refusals a command can meet.
@@ -18,6 +18,7 @@ MET_BY = {
     "asm": OF_SOURCE,
     "list": OF_SOURCE,
     "plain": (ANY, DIALECT),
+    "vectors": (ANY,),
     "draft": (*OF_SOURCE, DRAFTS, STATEMENTS),
     "bound": (*OF_HANDLER, PATH, EDGES),
     "explain": (*OF_HANDLER, PATH, CERTIFICATES),
@@ -57,7 +58,7 @@ def refusals(text):
         names = {}
         for cell in re.findall(r"^\| (`[^|]*) \|", body, re.M):
             for name, place in re.findall(r"`(\w+)(?: at (line N|A))?`", cell):
-                place = "line N" if title == SOURCES else place
+                place = "line N" if title in (SOURCES, DIALECT) else place
                 names[name] = {"": "", "A": r" at [0-9A-F]+", "line N": r" at line [1-9]\d*"}[place]
         tables[title] = names
     return tables

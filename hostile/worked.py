@@ -125,6 +125,13 @@ line F0 off
 frob
 quit
 """
+# In ObjAsm's dialect.
+DIALECT = b"""\
+turns    EQU    1 :SHL: 2
+ptr      RN     4
+start    MOV    ptr,#turns - 1
+         SUBS   PC,R14,#4
+"""
 # A machine that goes round for long: its trace does not fit into a pipe.
 ROUND = b"again    B      again\n"
 LONG = b"pc = 0x8000\nsteps = 5000\n"
@@ -184,6 +191,8 @@ def commands(bench):
     found.append(command(bench, f"{visited} --every 200 irq.s irq.toml 0x18", files))
     # FIQ leaves the handler no time: the status is 1.
     found.append(command(bench, f"{visited} --every 5 --waited 7 --within 300 irq.s irq.toml 0x18", files))
+    found.append(command(bench, "list --dialect objasm dialect.s", {"dialect.s": DIALECT}))
+    found.append(command(bench, "vectors 3 --seed 1", {}))
     complete((it.words[0] for it in found), "hostile/worked.py, commands")
     return found
 

@@ -1,8 +1,8 @@
 //! What the reports say of bytes as one of their inputs.
 
 use arcwcet::{
-    Bursts, Explained, MemoryOutput, ReportFault, RowForm, TableForm, asm_report, bound_report,
-    check_report, draft_report, explain_report, fault_only, list_report, run_report,
+    Bursts, Explained, MemoryOutput, ReportFault, RowForm, SourceFile, TableForm, asm_report,
+    bound_report, check_report, draft_report, explain_report, fault_only, list_report, run_report,
 };
 use samples::countdown::{SOURCE, STATEMENT};
 use std::alloc::{AllocError, Global};
@@ -28,7 +28,7 @@ pub(crate) const TAKEN: &str = "taken";
 
 fn explained(alloc: Global, statement: &[u8], out: &mut MemoryOutput) -> Result<bool, ReportFault> {
     let explained = Explained {
-        source: SOURCE,
+        source: SourceFile::plain(SOURCE),
         statement,
         at_most: None,
         bursts: Bursts {
@@ -51,17 +51,18 @@ fn explained(alloc: Global, statement: &[u8], out: &mut MemoryOutput) -> Result<
 // Reads the bytes as that input.
 fn read(alloc: Global, input: Input, bytes: &[u8]) -> Result<bool, ReportFault> {
     let mut out = MemoryOutput::with_room(alloc, 0)?;
+    let (source, given) = (SourceFile::plain(SOURCE), SourceFile::plain(bytes));
     match input {
-        Input::Source => asm_report(alloc, bytes, &mut out).and(Ok(true)),
-        Input::Listed => list_report(alloc, bytes, &mut out).and(Ok(true)),
-        Input::Drafted => draft_report(alloc, bytes, b"0x8000", &mut out).and(Ok(true)),
+        Input::Source => asm_report(alloc, given, &mut out).and(Ok(true)),
+        Input::Listed => list_report(alloc, given, &mut out).and(Ok(true)),
+        Input::Drafted => draft_report(alloc, given, b"0x8000", &mut out).and(Ok(true)),
         Input::Explained => explained(alloc, bytes, &mut out),
-        Input::Statement => bound_report(alloc, SOURCE, bytes, None, &mut out).and(Ok(true)),
-        Input::Machine => run_report(alloc, SOURCE, bytes, None, &mut out),
+        Input::Statement => bound_report(alloc, source, bytes, None, &mut out).and(Ok(true)),
+        Input::Machine => run_report(alloc, source, bytes, None, &mut out),
         Input::Profile => {
-            bound_report(alloc, SOURCE, STATEMENT, Some(bytes), &mut out).and(Ok(true))
+            bound_report(alloc, source, STATEMENT, Some(bytes), &mut out).and(Ok(true))
         }
-        Input::Certificate => check_report(alloc, SOURCE, STATEMENT, bytes, None, &mut out),
+        Input::Certificate => check_report(alloc, source, STATEMENT, bytes, None, &mut out),
     }
 }
 

@@ -2,7 +2,7 @@
 //! than the greatest is accepted.
 
 use crate::numbers::Numbers;
-use arcwcet::{MemoryOutput, ReportFault, bound_report, check_report};
+use arcwcet::{MemoryOutput, ReportFault, SourceFile, bound_report, check_report};
 use samples::{branch, call_twice, countdown, nested_countdown};
 use std::alloc::{AllocError, Global};
 use std::test::Fail;
@@ -117,7 +117,14 @@ enum Answer {
 fn answer_to(alloc: Global, handler: &Handler, text: &[u8]) -> Result<Answer, ReportFault> {
     let (source, statement, _) = handler;
     let mut out = MemoryOutput::with_room(alloc, 0)?;
-    let found = check_report(alloc, source, statement, text, None, &mut out);
+    let found = check_report(
+        alloc,
+        SourceFile::plain(source),
+        statement,
+        text,
+        None,
+        &mut out,
+    );
     let said = out.bytes();
     Ok(match found {
         Ok(true) if said == b"yes\n".as_slice() => Answer::Yes,
@@ -180,7 +187,7 @@ fn answers_to_forgeries(alloc: Global, handler: &Handler) -> Result<Answers, Rep
 fn is_right(alloc: Global, handler: &Handler) -> Result<bool, ReportFault> {
     let (source, statement, right) = handler;
     let mut out = MemoryOutput::with_room(alloc, 0)?;
-    bound_report(alloc, source, statement, None, &mut out)?;
+    bound_report(alloc, SourceFile::plain(source), statement, None, &mut out)?;
     let is_accepted = matches!(answer_to(alloc, handler, right)?, Answer::Yes);
     Ok(out.bytes() == *right && is_accepted)
 }

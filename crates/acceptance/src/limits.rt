@@ -1,6 +1,6 @@
 //! The most places of a graph.
 
-use arcwcet::{MemoryOutput, ReportFault, bound_report};
+use arcwcet::{MemoryOutput, ReportFault, SourceFile, bound_report};
 use flow_graph::BuildFault;
 use std::alloc::{AllocError, Global};
 use std::test::Fail;
@@ -27,7 +27,8 @@ fn longest_straight_code(rt: HostRuntime) -> Result<(), Fail> {
     for (words, wanted) in rows {
         let source = straight_code(alloc, words)?;
         let mut out = MemoryOutput::with_room(alloc, 0)?;
-        let answer = bound_report(alloc, source.as_bytes(), b"entry = 0x8000", None, &mut out);
+        let file = SourceFile::plain(source.as_bytes());
+        let answer = bound_report(alloc, file, b"entry = 0x8000", None, &mut out);
         let found = (answer, out.bytes().starts_with(HEAD));
         assert_eq!(rt; found, (wanted, wanted.is_ok()), "{words}");
     }

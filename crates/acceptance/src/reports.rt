@@ -1,10 +1,11 @@
 //! Each report of one short handler, and what it prints.
 
 use arcwcet::{
-    AskedResponse, Bursts, DrawnHandler, Explained, Extent, MemoryOutput, Output, ReportFault,
-    RowForm, TableForm, VisitRate, VisitedHandler, asm_report, bound_report, check_report,
-    debug_report, draft_on_report, draft_report, explain_report, fault_only, graph_report,
-    list_report, respond_report, run_report, tight_report, trace_report, visits_report,
+    AskedResponse, Bursts, Dialect, DrawnHandler, Explained, Extent, MemoryOutput, Output,
+    ReportFault, RowForm, SourceFile, TableForm, VisitRate, VisitedHandler, asm_report,
+    bound_report, check_report, debug_report, draft_on_report, draft_report, explain_report,
+    fault_only, graph_report, list_report, respond_report, run_report, tight_report, trace_report,
+    visits_report,
 };
 use samples::lone_return::{CERTIFICATE, SOURCE, STATEMENT};
 use std::alloc::{AllocError, Global};
@@ -22,7 +23,10 @@ const LINES: &[u8] = b"                         1   ORG &1C
 
 // Its bound is exactly as much as it may be.
 const EXPLAINED: Explained<'static> = Explained {
-    source: SOURCE,
+    source: SourceFile {
+        dialect: Dialect::Plain,
+        bytes: SOURCE,
+    },
     statement: STATEMENT,
     at_most: Some(9),
     bursts: Bursts {
@@ -41,7 +45,10 @@ const EXPLAINED: Explained<'static> = Explained {
 };
 
 const DRAWN: DrawnHandler<'static> = DrawnHandler {
-    source: SOURCE,
+    source: SourceFile {
+        dialect: Dialect::Plain,
+        bytes: SOURCE,
+    },
     statement: STATEMENT,
     extent: Extent::Whole,
 };
@@ -61,7 +68,10 @@ within 200 ticks: 0 ticks, 0.000 microseconds at 8 MHz to spare
 
 // It interrupts itself once.
 const VISITED: VisitedHandler<'static> = VisitedHandler {
-    source: SOURCE,
+    source: SourceFile {
+        dialect: Dialect::Plain,
+        bytes: SOURCE,
+    },
     irq: STATEMENT,
     fiq_source: None,
     fiq: STATEMENT,
@@ -161,7 +171,7 @@ pub(crate) const REPORTS: [(Report, &[&[u8]]); 14] = [
 // Prints a response that is exactly as much as it may be.
 fn print_response<O: Output>(alloc: Global, out: &mut O) -> Result<bool, ReportFault> {
     let asked = AskedResponse {
-        source: SOURCE,
+        source: SourceFile::plain(SOURCE),
         statement: STATEMENT,
         label: b"28",
         longest: None,
@@ -177,22 +187,23 @@ fn print_response<O: Output>(alloc: Global, out: &mut O) -> Result<bool, ReportF
 impl Report {
     /// Prints the report, and answers what it answers: `true` where it answers nothing.
     pub(crate) fn print<O: Output>(self, alloc: Global, out: &mut O) -> Result<bool, ReportFault> {
+        let source = SourceFile::plain(SOURCE);
         match self {
-            Report::Asm => asm_report(alloc, SOURCE, out).and(Ok(true)),
-            Report::List => list_report(alloc, SOURCE, out).and(Ok(true)),
-            Report::Bound => bound_report(alloc, SOURCE, STATEMENT, None, out).and(Ok(true)),
+            Report::Asm => asm_report(alloc, source, out).and(Ok(true)),
+            Report::List => list_report(alloc, source, out).and(Ok(true)),
+            Report::Bound => bound_report(alloc, source, STATEMENT, None, out).and(Ok(true)),
             Report::Visits => fault_only(visits_report(alloc, VISITED, None, out)),
             Report::Respond => print_response(alloc, out),
             Report::Explain => fault_only(explain_report(alloc, EXPLAINED, None, out)),
             Report::Graph => fault_only(graph_report(alloc, DRAWN, None, out)).and(Ok(true)),
-            Report::Draft => draft_report(alloc, SOURCE, b"28", out).and(Ok(true)),
-            Report::DraftOn => draft_on_report(alloc, SOURCE, BEGUN, out).and(Ok(true)),
-            Report::Tight => tight_report(alloc, SOURCE, STATEMENT, 0, None, out).and(Ok(true)),
-            Report::Check => check_report(alloc, SOURCE, STATEMENT, CERTIFICATE, None, out),
-            Report::Run => run_report(alloc, SOURCE, MACHINE, None, out),
-            Report::Trace => trace_report(alloc, SOURCE, MACHINE, None, out),
+            Report::Draft => draft_report(alloc, source, b"28", out).and(Ok(true)),
+            Report::DraftOn => draft_on_report(alloc, source, BEGUN, out).and(Ok(true)),
+            Report::Tight => tight_report(alloc, source, STATEMENT, 0, None, out).and(Ok(true)),
+            Report::Check => check_report(alloc, source, STATEMENT, CERTIFICATE, None, out),
+            Report::Run => run_report(alloc, source, MACHINE, None, out),
+            Report::Trace => trace_report(alloc, source, MACHINE, None, out),
             Report::Debug => {
-                debug_report(alloc, SOURCE, MACHINE, SESSION, None, out).and(Ok(true))
+                debug_report(alloc, source, MACHINE, SESSION, None, out).and(Ok(true))
             }
         }
     }

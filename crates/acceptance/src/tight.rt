@@ -1,6 +1,6 @@
 //! Machine files of edges, run by the source that they were made for.
 
-use arcwcet::{MemoryOutput, ReportFault, run_report, tight_report};
+use arcwcet::{MemoryOutput, ReportFault, SourceFile, run_report, tight_report};
 use samples::countdown::{SOURCE, STATEMENT};
 use std::alloc::Global;
 use std::test::Fail;
@@ -20,9 +20,22 @@ const EDGES: [Row; 5] = [
 fn runs_so(alloc: Global, row: &Row) -> Result<bool, ReportFault> {
     let (number, line, end) = row;
     let mut file = MemoryOutput::with_room(alloc, 0)?;
-    tight_report(alloc, SOURCE, STATEMENT, *number, None, &mut file)?;
+    tight_report(
+        alloc,
+        SourceFile::plain(SOURCE),
+        STATEMENT,
+        *number,
+        None,
+        &mut file,
+    )?;
     let mut report = MemoryOutput::with_room(alloc, 0)?;
-    let done = run_report(alloc, SOURCE, file.bytes(), None, &mut report)?;
+    let done = run_report(
+        alloc,
+        SourceFile::plain(SOURCE),
+        file.bytes(),
+        None,
+        &mut report,
+    )?;
     let begins = file.bytes().starts_with(line.as_bytes());
     Ok(done && begins && report.bytes().ends_with(end.as_bytes()))
 }

@@ -5,7 +5,8 @@ use Rattle.std.specs.Borrow.{Bor}
 use Rattle.std.specs.List.{cons_option}
 use Rattle.std.specs.declared.alloc.Global.{Global}
 use Rattle.std.proofs.lemmas.List.{append-nil, append_assoc, at_drop_all, at_drop_more, map-append}
-use Rattle.arcwcet.specs.Files.{FailsToRead, ReadsAll, Reading, Texts, inputs, inputs_of}
+use Rattle.arcwcet.specs.Files.{FailsToRead, ReadsAll, Reading, Texts, inputs, inputs_in}
+use Rattle.sources.specs.declared.file.Dialect.{Dialect}
 use Rattle.arcwcet.specs.declared.fault.StoreFault.{StoreFault}
 
 module _ {S : Type 0} (reads : Reading S) where
@@ -80,8 +81,8 @@ counted false old new is ok = absurd (cc ok)
 -- ## What was read, by whether a profile's file is named
 
 pub inputs_split : {X Y : Type 0} (f : X → List ℕ) (g : Y → List ℕ) (name : Option X) (read : Option Y) (files : Texts) → is_some read ≡ is_some name
-    → inputs (option_map g read) files ≡ inputs_of (option_map f name) (cons_option (option_map g read) files)
-inputs_split f g None None files both = refl
-inputs_split f g (Some n) (Some r) files both = refl
-inputs_split f g None (Some r) files both = absurd (cc both)
-inputs_split f g (Some n) None files both = absurd (cc both)
+    → (dialect : Dialect) → inputs dialect (option_map g read) files ≡ inputs_in dialect (option_map f name) (cons_option (option_map g read) files)
+inputs_split f g None None files both dialect = refl
+inputs_split f g (Some n) (Some r) files both dialect = refl
+inputs_split f g None (Some r) files both dialect = absurd (cc both)
+inputs_split f g (Some n) None files both dialect = absurd (cc both)

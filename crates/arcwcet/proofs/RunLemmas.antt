@@ -189,7 +189,7 @@ module _ {S O : Type 0} (reads : Reading S) (taken : O → Option (List ℕ)) (f
   IsFaultOf files = (report_from asked typed files).IsFault
 
   -- the files were read, and the report of them answered
-  pub ran_of : (before after : O) (files : Texts) (i : Inputs) → i ≡ inputs_of asked.profile files → ReadsAll reads old (names_of asked) files new → (status : ℕ)
+  pub ran_of : (before after : O) (files : Texts) (i : Inputs) → i ≡ inputs_of asked files → ReadsAll reads old (names_of asked) files new → (status : ℕ)
       → HasAnswered taken failures Said (report_of asked i typed) before after status → RunsOf reads taken failures Said asked typed old new before after status
   ran_of before after files i split read status h =
       answered_ran reads taken failures Said IsTextOf IsFaultOf (names_of asked) old new before after files read h.answer
@@ -233,16 +233,16 @@ module _ {S O : Type 0} (reads : Reading S) (writes : Writing S) (taken : O → 
 
   module _ (files : Texts) where
     -- the source is refused
-    pub asm_refused : (out : O) → ReadsAll reads old (names_of asked) files new → asked.command ≡ command.Asm → (i : Inputs) → i ≡ inputs_of asked.profile files → (fault : ReportFault) → (fault ≢ Device) × IsSourceRefused i.source fault
+    pub asm_refused : (out : O) → ReadsAll reads old (names_of asked) files new → asked.command ≡ command.Asm → (i : Inputs) → i ≡ inputs_of asked files → (fault : ReportFault) → (fault ≢ Device) × IsSourceRefused i.source fault
         → Said (Some (fault_text fault)) → (status : ℕ) → status ≡ report_status fault → RunsAsm reads writes taken failures Said asked old new out out status
     unfolding report_by
     asm_refused out read is_asm i split fault holds said status is =
-        let of_asm : IsSourceRefused (inputs_of asked.profile files).source fault = subst (λ (j : Inputs). IsSourceRefused j.source fault) split holds.1 in
+        let of_asm : IsSourceRefused (inputs_of asked files).source fault = subst (λ (j : Inputs). IsSourceRefused j.source fault) split holds.1 in
         asm_quiet out status
         (refused reads taken failures Said Nothing IsAsmFault (names_of asked) old new out out files read fault
-        (subst (λ (k : Command). (report_by asked (inputs_of asked.profile files) [] k).IsFault fault) (sym is_asm) of_asm) (λ other. refl) (λ d. absurd (holds.0 d)) said status is)
+        (subst (λ (k : Command). (report_by asked (inputs_of asked files) [] k).IsFault fault) (sym is_asm) of_asm) (λ other. refl) (λ d. absurd (holds.0 d)) said status is)
 
-    module _ (between : S) (read : ReadsAll reads old (names_of asked) files between) (i : Inputs) (split : i ≡ inputs_of asked.profile files) (bytes report : List ℕ) (image : IsWritten i.source bytes report) where
+    module _ (between : S) (read : ReadsAll reads old (names_of asked) files between) (i : Inputs) (split : i ≡ inputs_of asked files) (bytes report : List ℕ) (image : IsWritten i.source bytes report) where
       has_written : (written : Result (Unit {0}) StoreFault) → writes between asked.word bytes written new → HasWritten reads writes asked old new written report
       has_written written h = record {
         files = files;
@@ -464,6 +464,7 @@ module _ {S I O : Type 0} (reads : Reading S) (writes : Writing S) (remaining : 
     by_form command.RunTo asm debug plain = plain
     by_form command.Trace asm debug plain = plain
     by_form command.TraceTo asm debug plain = plain
+    by_form command.Vectors asm debug plain = plain
     by_form command.Bound asm debug plain = plain
     by_form command.Tight asm debug plain = plain
     by_form command.Check asm debug plain = plain

@@ -5,6 +5,9 @@ use Rattle.std.specs.Io.KnownBytes.{Consumes}
 use Rattle.std.specs.List.{cons_option}
 use Rattle.outputs.specs.Output.{FailsSince}
 use Rattle.command_line.specs.Line.{Asked}
+use Rattle.sources.specs.File.{File}
+use Rattle.sources.specs.declared.file.Dialect.{Dialect}
+use Rattle.sources.specs.declared.file.Dialect.TheVariants.{Plain, Objasm}
 use Rattle.arcwcet.specs.declared.fault.StoreFault.{StoreFault}
 use Rattle.arcwcet.specs.declared.fault.StoreFault.TheVariants as store_fault
 use Rattle.arcwcet.specs.declared.files.TheConstants.{MOST_INPUT_BYTES}
@@ -17,32 +20,47 @@ Texts = List (List ℕ)
 abbrev pub names_of : Asked → Texts
 names_of asked = cons_option asked.profile asked.files
 
--- the bytes of a command's files, a cycle profile's apart: a file that a command does not have is empty; and
--- of all those behind the first two
+-- The bytes of a command's files, a cycle profile's apart: a file that a command does not have is empty. The
+-- first is read as a source, and the fourth is one of FIQ's in some commands. And the bytes of all files
+-- behind the first two.
 pub record Inputs : Type 0 where
   pub profile : Option (List ℕ)
-  pub source : List ℕ
+  pub source : File
   pub second : List ℕ
   pub third : List ℕ
   pub fourth : List ℕ
+  pub fiq_source : File
   pub rest : Texts
 
-abbrev pub inputs : Option (List ℕ) → Texts → Inputs
-inputs profile files =
+-- what sources are written in, where the words name it
+abbrev pub dialect_of : Option (List ℕ) → Dialect
+dialect_of None = Plain
+dialect_of (Some name) = Objasm
+
+-- the file in a place, from 0, as a source
+abbrev pub source_at : Dialect → Texts → ℕ → File
+source_at dialect files place = record { dialect = dialect; bytes = slice_index_or files place [] }
+
+abbrev pub inputs : Dialect → Option (List ℕ) → Texts → Inputs
+inputs dialect profile files =
     record {
       profile = profile;
-      source = slice_index_or files 0 [];
+      source = source_at dialect files 0;
       second = slice_index_or files 1 [];
       third = slice_index_or files 2 [];
       fourth = slice_index_or files 3 [];
+      fiq_source = source_at dialect files 3;
       rest = drop 2 files;
     }
 
 -- of the files that were read, with a cycle profile's in front where one is named
-abbrev pub inputs_of : (named : Option (List ℕ)) → Texts → Inputs
-inputs_of None files = inputs None files
-inputs_of (Some name) [] = inputs None []
-inputs_of (Some name) (profile ∷ files) = inputs (Some profile) files
+abbrev pub inputs_in : Dialect → (named : Option (List ℕ)) → Texts → Inputs
+inputs_in dialect None files = inputs dialect None files
+inputs_in dialect (Some name) [] = inputs dialect None []
+inputs_in dialect (Some name) (profile ∷ files) = inputs dialect (Some profile) files
+
+abbrev pub inputs_of : Asked → Texts → Inputs
+inputs_of asked files = inputs_in (dialect_of asked.dialect) asked.profile files
 
 -- how a store is read: what it was, a name, what the read returns, and the store after it
 abbrev pub Reading : Type 0 → Type 1

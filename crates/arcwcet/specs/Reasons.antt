@@ -1,5 +1,8 @@
 -- What is printed after the line of a refusal: what shows why.
-use Rattle.std.specs.Prelude.{◌≡◌, ℕ, List, []}
+use Rattle.std.specs.Prelude.{◌≡◌, ℕ, List, [], Result, Ok, Err}
+use Rattle.objasm.specs.declared.faults.LineFault.{LineFault}
+use Rattle.sources.specs.Dialect.{plain_text}
+use Rattle.sources.specs.File.{File, file_of}
 use Rattle.sources.specs.Lines.{AreLines}
 use Rattle.sources.specs.declared.read.Source.{Source}
 use Rattle.text_refusals.specs.AskedLabels.{IsStatementReason}
@@ -27,14 +30,23 @@ pub record AreWordsOf (source : Source) (words : WordLines) : Type 0 where
 abbrev pub ByWords : Source → (WordLines → Type 0) → Type 0
 ByWords source Is = (words : WordLines) × AreWordsOf source words × Is words
 
--- the lines of the source's bytes that have faults
-abbrev pub IsSourceReason : List ℕ → List ℕ → Type 0
-IsSourceReason bytes text =
-    (lines : List FaultyLine) × AreFaultyLines bytes lines × AreRows (IsFaultyRow bytes) lines text
+-- the lines of a text that have faults in our grammar, as they stand in the text
+abbrev pub HasFaultyRows : (bytes plain : List ℕ) → List ℕ → Type 0
+HasFaultyRows bytes plain text =
+    (lines : List FaultyLine) × AreFaultyLines plain lines × AreRows (IsFaultyRow bytes) lines text
+
+-- nothing of a text that is nothing in our grammar, as the one line says all
+abbrev pub HasRowsBy : (bytes : List ℕ) → Result (List ℕ) (LineFault × ℕ) → List ℕ → Type 0
+HasRowsBy bytes (Ok plain) text = HasFaultyRows bytes plain text
+HasRowsBy bytes (Err fault) text = text ≡ []
+
+-- the lines of a source's file that have faults
+abbrev pub IsSourceReason : File → List ℕ → Type 0
+IsSourceReason file text = HasRowsBy file.bytes (plain_text file) text
 
 -- of a file that is refused; nothing where the one line says all
 abbrev pub IsFileReason : RefusedFiles → ReportFault → List ℕ → Type 0
-IsFileReason files (report_fault.Source fault) text = IsSourceReason files.source.now text
+IsFileReason files (report_fault.Source fault) text = IsSourceReason (file_of files.source) text
 IsFileReason files (report_fault.MachineFile fault) text = IsMachineText files.machine.now fault text
 IsFileReason files (report_fault.Profile fault) text = IsProfileText files.profile.now fault text
 IsFileReason files (report_fault.Given fault) text = IsGivenText files.given.now fault text

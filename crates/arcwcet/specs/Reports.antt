@@ -1,6 +1,6 @@
 -- What a command prints of the bytes of its files, and why it refuses them: a line for each command.
 use Rattle.std.specs.Prelude.{◌≡◌, ℕ, Bool, true, false, List, [], codes, drop, Option, Some, None, Result, Ok}
-use Rattle.std.specs.Prelude.{Err, if◌then◌else◌, unwrap_or}
+use Rattle.std.specs.Prelude.{Err, if◌then◌else◌, option_map, unwrap_or}
 use Rattle.std.specs.List.{slice_get}
 use Rattle.std.specs.Option.{option_map_or}
 use Rattle.bus_ticks.specs.declared.profile.Profile.{Profile}
@@ -21,6 +21,7 @@ use Rattle.machine_reports.specs.Debug.{IsDebugReport}
 use Rattle.machine_reports.specs.Machine.{End, Front, IsMachineReport, ShowsRecords, ShowsRegisters}
 use Rattle.machine_reports.specs.Machine.{ShowsSteps, lines_end, record_end}
 use Rattle.machine_reports.specs.RunTo.{IsRunToRefused, IsRunToReport}
+use Rattle.machine_reports.specs.Vectors.{IsVectorsFault, IsVectorsReport}
 use Rattle.bound_reports.specs.TightReport.{IsTightRefused, IsTightReport}
 use Rattle.bound_reports.specs.VisitsReport.{AreRefused, IsVisitsReport}
 use Rattle.bound_reports.specs.declared.visit_rate.VisitRate.{VisitRate}
@@ -43,6 +44,7 @@ use Rattle.command_line.specs.declared.line.Command.TheVariants as command
 use Rattle.command_line.specs.declared.line.CommandNumbers.{CommandNumbers}
 use Rattle.arcwcet.specs.Facts.{ByFacts, FactsFault, facts_file}
 use Rattle.arcwcet.specs.Files.{Inputs}
+use Rattle.sources.specs.File.{File}
 
 -- the texts of each answer, and the faults
 pub record Report : Type 1 where
@@ -99,7 +101,7 @@ abbrev pub extent_of : Bool → Extent
 extent_of path = if path then Path else Whole
 
 -- what `graph` prints: a page of HTML, or else a drawing
-abbrev pub IsDrawn : (html : Bool) → List ℕ → List ℕ → Extent → Profile → List ℕ → Type 0
+abbrev pub IsDrawn : (html : Bool) → File → List ℕ → Extent → Profile → List ℕ → Type 0
 IsDrawn true = IsPageReport
 IsDrawn false = IsGraphReport
 
@@ -116,16 +118,16 @@ trace_end false = lines_end
 abbrev pub rate_of : CommandNumbers → VisitRate
 rate_of n = option_map_or (λ every. Every every n.waited) n.every (Times (unwrap_or n.visits 0))
 
--- the source of FIQ's handler of `visits`, where it is another one
-abbrev pub fiq_source_in : Inputs → Option (List ℕ)
-fiq_source_in i = slice_get i.rest 1
+-- the source of FIQ's handler of `visits`, where it is another one: the fourth file
+abbrev pub fiq_source_in : Inputs → Option File
+fiq_source_in i = option_map (λ bytes. i.fiq_source) (slice_get i.rest 1)
 
 -- FIQ's handler, of the files of `respond` behind the second; None where its statement is not among them
 abbrev pub fiq_asked_in : Asked → Inputs → Option FiqQuestion
 fiq_asked_in asked i =
     if asked.fiq_statement
     then Some (record {
-      own = if asked.fiq_source then Some i.fourth else None;
+      own = if asked.fiq_source then Some i.fiq_source else None;
       statement = i.third;
       every = unwrap_or asked.numbers.every 0;
       waited = asked.numbers.waited;
@@ -158,6 +160,10 @@ version_line = codes "arcwcet 1.0.0\n"
 abbrev pub version_report : Report
 version_report = unpriced (λ text. text ≡ version_line) (λ fault. fault ≡ report_fault.Device)
 
+-- what `vectors` prints
+abbrev pub vectors_report : CommandNumbers → Report
+vectors_report n = record { IsText = IsVectorsReport (unwrap_or n.vectors 0); IsFault = IsVectorsFault }
+
 -- what `justify` prints by facts
 abbrev pub justified : Inputs → (all : Bool) → List Given → Report
 justified i all facts =
@@ -171,7 +177,7 @@ module _ (asked : Asked) (i : Inputs) (typed : List ℕ) where
   report_by command.Version = version_report
   report_by command.Asm = unpriced (IsAsmReport i.source) (IsSourceRefused i.source)
   report_by command.List = unpriced (IsListReport i.source) (IsSourceRefused i.source)
-  report_by command.Plain = unpriced (IsPlainReport i.source) (IsPlainRefused i.source)
+  report_by command.Plain = unpriced (IsPlainReport i.source.bytes) (IsPlainRefused i.source.bytes)
   report_by command.Draft = unpriced (IsDraftReport i.source asked.word) (IsDraftRefused i.source asked.word)
   report_by command.DraftOn =
       unpriced (IsDraftOnReport i.source i.second) (IsDraftOnRefused i.source i.second)
@@ -187,6 +193,7 @@ module _ (asked : Asked) (i : Inputs) (typed : List ℕ) where
       judged i.profile
       (IsRunToReport (trace_shows asked.json) (trace_end asked.json) i.source i.second asked.word)
       (IsRunToRefused i.source i.second asked.word)
+  report_by command.Vectors = vectors_report asked.numbers
   report_by command.Debug =
       priced i.profile (IsDebugReport i.source i.second typed) (IsRunRefused i.source i.second)
   report_by command.Bound = priced i.profile (IsReport i.source i.second) (IsRefused i.source i.second)

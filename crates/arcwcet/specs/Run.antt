@@ -108,7 +108,7 @@ pub record Runs {S O : Type 0} (reads : Reading S) (taken : O → Option (List �
 -- the report of what is asked, of the bytes of its files in the order in which they were read, and of the
 -- commands on standard input
 abbrev pub report_from : Asked → (typed : List ℕ) → Texts → Report
-report_from asked typed files = report_of asked (inputs_of asked.profile files) typed
+report_from asked typed files = report_of asked (inputs_of asked files) typed
 
 -- a call prints a text of the report, or refuses
 abbrev pub PrintsReport : {O : Type 0} → (O → Option (List ℕ)) → (O → ℕ) → Report → (before after : O)
@@ -140,7 +140,7 @@ module _ {S : Type 0} (reads : Reading S) (writes : Writing S) (asked : Asked) (
     pub bytes : List ℕ
     pub between : S
     pub read : ReadsAll reads old (names_of asked) files between
-    pub is : IsWritten (inputs_of asked.profile files).source bytes report
+    pub is : IsWritten (inputs_of asked files).source bytes report
     pub writes_it : writes between asked.word bytes written new
 
   -- the image's file was written and the report printed

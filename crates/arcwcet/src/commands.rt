@@ -12,7 +12,7 @@ ghost use Rattle.arcwcet.specs.Run.{HasAnswered, RunsAsked, RunsAsm};
 
 use crate::announced::AnnouncedStore;
 use crate::diagnose::{alone_status, answered_status};
-use crate::files::{Store, read_files, read_limited};
+use crate::files::{Store, dialect_of, read_files, read_limited};
 use crate::input::Input;
 use crate::reports::{Job, print};
 use crate::status::{line_status, report_status, store_status, unread_status};
@@ -50,7 +50,7 @@ fn run_asm<S: Store, O: Output, E: Output>(
 ) -> u8
     ensures ran { let asked = asked_of job.entry.request.now in
         (old : S) (files : Texts) → ReadsAll S.read_gives old (names_of asked) files store.old
-        → inputs_lent job.entry.inputs ≡ inputs_of asked.profile files → asked.command ≡ Command.Asm
+        → inputs_lent job.entry.inputs ≡ inputs_of asked files → asked.command ≡ Command.Asm
         → RunsAsm S.read_gives S.write_gives O.taken O.failures
         (Says E.taken E.failures asked err.old err.new) asked old store.new out.old out.new result }
     ensures silent { result ≡ 0 → err.new ≡ err.old }
@@ -89,7 +89,7 @@ fn obey<S: Store, I: Input, O: Output, E: Output>(
     let command = asked.command;
     let job = Job {
         request: &asked,
-        inputs: files.inputs(),
+        inputs: files.inputs(dialect_of(asked.dialect)),
     };
     match command {
         Command::Asm => run_asm(alloc, job, store, out, err),

@@ -3,16 +3,19 @@
 ghost use Rattle.std.specs.Prelude.{◌≡◌, Err, IfOk};
 ghost use Rattle.command_line.specs.Rows.{asked_of};
 ghost use Rattle.handlers.specs.Refusal.{fault_only};
-ghost use Rattle.arcwcet.specs.Reasons.{AreReasons, IsFileReason, IsSourceReason, IsStopReason};
+ghost use Rattle.arcwcet.specs.Reasons.{AreReasons, HasFaultyRows, IsFileReason, IsSourceReason};
+ghost use Rattle.arcwcet.specs.Reasons.{IsStopReason};
 ghost use Rattle.arcwcet.specs.Refusals.{Says, TakesSome, refusal_of};
 ghost use Rattle.arcwcet.specs.Run.{answer_status};
+ghost use Rattle.sources.specs.File.{file_of};
 
 use crate::reports::Job;
 use crate::status::{report_status, shows_why};
 use command_line::Command;
 use handlers::{Refusal, ReportFault, Stop};
+use objasm::DialectFault;
 use outputs::{Output, write_whole};
-use sources::Source;
+use sources::{PlainText, Source, SourceFile};
 use std::alloc::{AllocError, Global};
 use text_refusals::{
     faulty_lines, faulty_text, given_text, graph_reason, loops_reason, machine_text, profile_text,
@@ -23,7 +26,7 @@ use text_refusals::{
 #[derive(Clone, Copy)]
 pub struct RefusedFiles<'a> {
     /// Its source, a text or an image.
-    pub source: &'a [u8],
+    pub source: SourceFile<'a>,
     /// The text of its machine file.
     pub machine: &'a [u8],
     /// The text of its cycle profile's file.
@@ -32,12 +35,23 @@ pub struct RefusedFiles<'a> {
     pub given: &'a [u8],
 }
 
-// The lines of a source that have faults.
-fn source_text(alloc: Global, bytes: &[u8]) -> Result<Vec<u8>, AllocError>
-    ensures { IfOk result (λ text. IsSourceReason bytes.now text.items) }
+// The lines of a text that have faults in our grammar, as they stand in the text.
+fn lines_text(alloc: Global, bytes: &[u8], plain: &[u8]) -> Result<Vec<u8>, AllocError>
+    ensures { IfOk result (λ text. HasFaultyRows bytes.now plain.now text.items) }
 {
-    let lines = faulty_lines(alloc, bytes)?;
+    let lines = faulty_lines(alloc, plain)?;
     faulty_text(alloc, bytes, &lines)
+}
+
+// The lines of a source that have faults.
+fn source_text(alloc: Global, file: SourceFile<'_>) -> Result<Vec<u8>, AllocError>
+    ensures { IfOk result (λ text. IsSourceReason (file_of file.entry) text.items) }
+{
+    match PlainText::read(alloc, file) {
+        Ok(plain) => lines_text(alloc, file.bytes, plain.bytes()),
+        Err(DialectFault::Memory) => Err(AllocError),
+        Err(DialectFault::Line(..)) => Ok(Vec::new(alloc)),
+    }
 }
 
 // What shows why a file is refused; nothing where the one line says all.

@@ -6,7 +6,8 @@ ghost use Rattle.std.specs.IoError.{error_kind};
 ghost use Rattle.std.specs.List.{cons_option};
 ghost use Rattle.command_line.specs.Rows.{asked_of};
 ghost use Rattle.arcwcet.specs.Files.{FailsToRead, Reading, ReadsAll, StopsReading, Writing};
-ghost use Rattle.arcwcet.specs.Files.{names_of};
+ghost use Rattle.arcwcet.specs.Files.{dialect_of, names_of, source_at};
+ghost use Rattle.sources.specs.File.{file_of};
 ghost use Rattle.arcwcet.specs.Kept.{inputs_kept, inputs_lent, kept_of};
 ghost use Rattle.arcwcet.specs.FileFaults.{file_fault_of};
 ghost use Rattle.arcwcet.specs.Store.{bytes_read};
@@ -15,6 +16,7 @@ ghost use Rattle.arcwcet.specs.declared.fault.StoreFault.{StoreFault};
 use crate::fault::{FileFault, StoreFault};
 use crate::input::{Input, StreamInput};
 use command_line::Request;
+use sources::{Dialect, SourceFile};
 use std::alloc::Global;
 use std::io::{ErrorKind, Read, Write};
 use std::rt::Files;
@@ -177,12 +179,25 @@ pub(crate) struct ReadFiles {
 #[derive(Clone, Copy)]
 pub(crate) struct Inputs<'a> {
     pub(crate) profile: Option<&'a [u8]>,
-    pub(crate) source: &'a [u8],
+    /// The first.
+    pub(crate) source: SourceFile<'a>,
     pub(crate) second: &'a [u8],
     pub(crate) third: &'a [u8],
     pub(crate) fourth: &'a [u8],
+    /// The fourth as a source, FIQ's own.
+    pub(crate) fiq_source: SourceFile<'a>,
     /// All behind the first two.
     pub(crate) rest: &'a [Vec<u8>],
+}
+
+/// What sources are written in, where the words name it.
+pub(crate) fn dialect_of(name: Option<&str>) -> Dialect
+    ensures { result ≡ dialect_of (option_map (λ n. n.now) name.entry) }
+{
+    match name {
+        Some(_) => Dialect::Objasm,
+        None => Dialect::Plain,
+    }
 }
 
 // The bytes of the file in a place, from 0.
@@ -192,6 +207,16 @@ fn bytes_at(files: &[Vec<u8>], place: usize) -> &[u8]
     match files.get(place) {
         Some(bytes) => bytes,
         None => &[],
+    }
+}
+
+// The file in a place, from 0, as a source.
+fn source_at(files: &[Vec<u8>], dialect: Dialect, place: usize) -> SourceFile<'_>
+    ensures { file_of result ≡ source_at dialect (map (λ v. v.items) files.now) place }
+{
+    SourceFile {
+        dialect,
+        bytes: bytes_at(files, place),
     }
 }
 
@@ -225,17 +250,18 @@ impl ReadFiles {
         }
     }
 
-    /// The bytes of the files.
-    pub(crate) fn inputs(&self) -> Inputs<'_>
-        ensures { inputs_lent result ≡ inputs_kept self.now }
+    /// The bytes of the files, of which the sources are written in the dialect.
+    pub(crate) fn inputs(&self, dialect: Dialect) -> Inputs<'_>
+        ensures { inputs_lent result ≡ inputs_kept dialect self.now }
     {
         let others = self.others.as_slice();
         Inputs {
             profile: self.profile(),
-            source: bytes_at(others, 0),
+            source: source_at(others, dialect, 0),
             second: bytes_at(others, 1),
             third: bytes_at(others, 2),
             fourth: bytes_at(others, 3),
+            fiq_source: source_at(others, dialect, 3),
             rest: behind_two(others),
         }
     }

@@ -46,4 +46,5 @@ pub use responses::{
     irq_costs_its_entry, response_law, some_run_serves, unmasked_is_taken, visited_response_law,
 };
 pub use source_reports::{asm_report, draft_on_report, draft_report, list_report, plain_report};
+pub use sources::{Dialect, SourceFile};
 pub use text_explained::{Bursts, RowForm};

@@ -24,8 +24,9 @@ ghost use Rattle.arcwcet.specs.Kept.{inputs_lent};
 ghost use Rattle.arcwcet.specs.Reports.{IsDrawn, answered, bursts_of, by_facts, extent_of, fiq_asked_in};
 ghost use Rattle.arcwcet.specs.Reports.{fiq_files, fiq_source_in, form_of, justified, priced};
 ghost use Rattle.arcwcet.specs.Reports.{question_in, rate_of};
-ghost use Rattle.arcwcet.specs.Reports.{report_of, trace_end, trace_shows, version_line, version_report};
+ghost use Rattle.arcwcet.specs.Reports.{report_of, trace_end, trace_shows, vectors_report, version_line, version_report};
 ghost use Rattle.arcwcet.specs.Run.{PrintsReport};
+ghost use Rattle.sources.specs.File.{file_of};
 
 use crate::facts::{facts_file, facts_of};
 use crate::files::{Inputs, behind_one, behind_two};
@@ -43,11 +44,12 @@ use justify_reports::{JustifiedHandler, justify_report};
 use known_words::Given;
 use machine_reports::{
     Front, RunTo, ShownRecords, ShownRegisters, ShownSteps, debug_report, machine_report,
-    run_to_report,
+    run_to_report, vectors_report,
 };
 use outputs::{Output, Page};
 use response_reports::{AskedFiq, AskedResponse, respond_report};
 use source_reports::{asm_report, draft_on_report, draft_report, list_report, plain_report};
+use sources::SourceFile;
 use std::alloc::Global;
 use text_explained::{Bursts, RowForm};
 
@@ -95,6 +97,22 @@ fn print_version<O: Output>(out: &mut O) -> Result<bool, ReportFault>
     }
 }
 
+// `vectors`, so many of a seed.
+fn print_vectors<O: Output>(
+    alloc: Global,
+    numbers: CommandNumbers,
+    out: &mut O,
+) -> Result<bool, ReportFault>
+    ensures { PrintsReport O.taken O.failures (vectors_report numbers) out.old out.new result }
+{
+    vectors_report(
+        alloc,
+        numbers.vectors.unwrap_or(0),
+        numbers.seed.unwrap_or(0),
+        out,
+    )
+}
+
 // `tight`, of a source and a statement.
 fn print_edge<'b, O: Output>(
     alloc: Global,
@@ -104,8 +122,8 @@ fn print_edge<'b, O: Output>(
 ) -> Result<bool, Refusal<'b>>
     ensures { PrintsReport O.taken O.failures
         (priced (inputs_lent inputs.entry).profile
-        (IsTightReport inputs.entry.source.now inputs.entry.second.now numbers.edge)
-        (IsTightRefused inputs.entry.source.now inputs.entry.second.now numbers.edge)) out.old out.new
+        (IsTightReport (file_of inputs.entry.source) inputs.entry.second.now numbers.edge)
+        (IsTightRefused (file_of inputs.entry.source) inputs.entry.second.now numbers.edge)) out.old out.new
         (fault_only result) }
 {
     let asked = AskedEdge {
@@ -132,8 +150,9 @@ fn print_drawing<'b, O: Output>(
 ) -> Result<bool, Refusal<'b>>
     ensures { PrintsReport O.taken O.failures
         (priced (inputs_lent inputs.entry).profile
-        (IsGraphReport inputs.entry.source.now inputs.entry.second.now (extent_of path))
-        (IsRefused inputs.entry.source.now inputs.entry.second.now)) out.old out.new (fault_only result) }
+        (IsGraphReport (file_of inputs.entry.source) inputs.entry.second.now (extent_of path))
+        (IsRefused (file_of inputs.entry.source) inputs.entry.second.now)) out.old out.new
+        (fault_only result) }
 {
     let drawn = DrawnHandler {
         source: inputs.source,
@@ -215,8 +234,9 @@ fn print_page<'b, O: Output>(
 ) -> Result<bool, Refusal<'b>>
     ensures { PrintsReport O.taken O.failures
         (priced (inputs_lent inputs.entry).profile
-        (IsPageReport inputs.entry.source.now inputs.entry.second.now (extent_of path))
-        (IsRefused inputs.entry.source.now inputs.entry.second.now)) out.old out.new (fault_only result) }
+        (IsPageReport (file_of inputs.entry.source) inputs.entry.second.now (extent_of path))
+        (IsRefused (file_of inputs.entry.source) inputs.entry.second.now)) out.old out.new
+        (fault_only result) }
 {
     let shown = DrawnHandler {
         source: inputs.source,
@@ -236,8 +256,9 @@ fn print_graph<'b, O: Output>(
 ) -> Result<bool, Refusal<'b>>
     ensures { PrintsReport O.taken O.failures
         (priced (inputs_lent inputs.entry).profile
-        (IsDrawn html inputs.entry.source.now inputs.entry.second.now (extent_of path))
-        (IsRefused inputs.entry.source.now inputs.entry.second.now)) out.old out.new (fault_only result) }
+        (IsDrawn html (file_of inputs.entry.source) inputs.entry.second.now (extent_of path))
+        (IsRefused (file_of inputs.entry.source) inputs.entry.second.now)) out.old out.new
+        (fault_only result) }
 {
     if html {
         return print_page(alloc, inputs, path, out);
@@ -252,7 +273,7 @@ fn print_checked<'b, O: Output>(
     out: &mut O,
 ) -> Result<bool, Refusal<'b>>
     ensures { Priced (inputs_lent inputs.entry).profile
-        (λ p. Checks O.taken O.failures inputs.entry.source.now inputs.entry.second.now
+        (λ p. Checks O.taken O.failures (file_of inputs.entry.source) inputs.entry.second.now
         inputs.entry.third.now p out.old out.new (fault_only result)) out.old out.new (fault_only result) }
 {
     let checked = CheckInputs {
@@ -277,11 +298,11 @@ fn rate_of(numbers: CommandNumbers) -> VisitRate
 }
 
 // The source of FIQ's handler, where it is another one.
-fn fiq_source<'b>(inputs: Inputs<'b>) -> Option<&'b [u8]>
-    ensures { option_map (λ f. f.now) result ≡ fiq_source_in (inputs_lent inputs.entry) }
+fn fiq_source<'b>(inputs: Inputs<'b>) -> Option<SourceFile<'b>>
+    ensures { option_map file_of result ≡ fiq_source_in (inputs_lent inputs.entry) }
 {
     match inputs.rest.get(1) {
-        Some(source) => Some(source),
+        Some(_) => Some(inputs.fiq_source),
         None => None,
     }
 }
@@ -294,7 +315,7 @@ fn print_visited<'b, O: Output>(
     out: &mut O,
 ) -> Result<bool, Refusal<'b>>
     ensures { Priced (inputs_lent inputs.entry).profile
-        (λ p. ReportsVisits O.taken O.failures inputs.entry.source.now
+        (λ p. ReportsVisits O.taken O.failures (file_of inputs.entry.source)
         (fiq_source_in (inputs_lent inputs.entry)) inputs.entry.second.now inputs.entry.third.now
         (rate_of numbers) p out.old out.new (fault_only result)) out.old out.new (fault_only result) }
 {
@@ -326,7 +347,7 @@ fn fiq_asked<'b>(request: &Request<'_>, inputs: Inputs<'b>) -> Option<AskedFiq<'
         return None;
     }
     let source = if request.fiq_source {
-        Some(inputs.fourth)
+        Some(inputs.fiq_source)
     } else {
         None
     };
@@ -425,7 +446,7 @@ fn print_verdict<'b, O: Output>(
     out: &mut O,
 ) -> Result<bool, Refusal<'b>>
     ensures { Priced (inputs_lent inputs.entry).profile
-        (λ p. ExplainsVerdict O.taken O.failures inputs.entry.source.now inputs.entry.second.now
+        (λ p. ExplainsVerdict O.taken O.failures (file_of inputs.entry.source) inputs.entry.second.now
         inputs.entry.third.now p out.old out.new (fault_only result)) out.old out.new (fault_only result) }
 {
     let checked = CheckInputs {
@@ -478,7 +499,7 @@ fn print_followed<'b, O: Output>(
     out: &mut O,
 ) -> Result<bool, Refusal<'b>>
     ensures { Priced (inputs_lent inputs.entry).profile
-        (λ p. FollowsRun O.taken O.failures inputs.entry.source.now inputs.entry.second.now
+        (λ p. FollowsRun O.taken O.failures (file_of inputs.entry.source) inputs.entry.second.now
         inputs.entry.third.now p out.old out.new (fault_only result)) out.old out.new (fault_only result) }
 {
     let run = FollowedRun {
@@ -496,7 +517,7 @@ fn print_followed_visits<'b, O: Output>(
     out: &mut O,
 ) -> Result<bool, Refusal<'b>>
     ensures { Priced (inputs_lent inputs.entry).profile
-        (λ p. FollowsVisitedRun O.taken O.failures inputs.entry.source.now inputs.entry.second.now
+        (λ p. FollowsVisitedRun O.taken O.failures (file_of inputs.entry.source) inputs.entry.second.now
         inputs.entry.third.now inputs.entry.fourth.now p out.old out.new (fault_only result)) out.old out.new
         (fault_only result) }
 {
@@ -529,7 +550,7 @@ pub(crate) fn print<'b, O: Output>(
         Command::Version => alone(print_version(out)),
         Command::Asm => answered(alone(asm_report(alloc, source, out))),
         Command::List => answered(alone(list_report(alloc, source, out))),
-        Command::Plain => answered(alone(plain_report(alloc, source, out))),
+        Command::Plain => answered(alone(plain_report(alloc, source.bytes, out))),
         Command::Draft => {
             let entry = job.request.word.as_bytes();
             answered(alone(draft_report(alloc, source, entry, out)))
@@ -541,6 +562,7 @@ pub(crate) fn print<'b, O: Output>(
         Command::RunTo => print_run_to::<ShownRegisters, O>(alloc, job, out),
         Command::Trace => print_trace(alloc, job, out),
         Command::TraceTo => print_trace_to(alloc, job, out),
+        Command::Vectors => alone(print_vectors(alloc, numbers, out)),
         Command::Debug => answered(alone(debug_report(alloc, source, second, typed, profile, out))),
         Command::Bound => answered(print_bound(alloc, source, second, profile, out)),
         Command::Tight => print_edge(alloc, inputs, numbers, out),

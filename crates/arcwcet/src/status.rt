@@ -50,6 +50,10 @@ pub(crate) fn line_status<E: Output>(fault: CommandLineFault, err: &mut E) -> u8
             let _ = write!(Text { out: err }, "{error}");
             2
         }
+        CommandLineFault::UnknownDialect => {
+            let _ = write_whole(err, b"error: --dialect takes objasm alone\n");
+            2
+        }
         CommandLineFault::SourceReplaced => {
             let _ = write_whole(err, b"error: the image would be written over its source\n");
             2

@@ -8,8 +8,9 @@ use Rattle.handlers.specs.Report.{IsAccepted, IsRefused, IsReport}
 use Rattle.handlers.specs.declared.fault.ReportFault.{ReportFault}
 use Rattle.handlers.specs.declared.fault.ReportFault.TheVariants.{Memory, Device}
 use Rattle.bound_reports.specs.Bound.{AreAcceptedBy, AreRefusedBy, IsReportBy, Reports}
+use Rattle.sources.specs.File.{File}
 
-module _ (file : Option (List ℕ)) (source statement : List ℕ) (p : Profile) (is : IsProfile file p) where
+module _ (file : Option (List ℕ)) (source : File) (statement : List ℕ) (p : Profile) (is : IsProfile file p) where
   report_by : (text : List ℕ) → IsReport source statement p text → IsReportBy file source statement text
   report_by text report = record { profile = p; is = is; holds = report }
 
@@ -30,7 +31,7 @@ module _ (file : Option (List ℕ)) (source statement : List ℕ) (p : Profile) 
       → FailsWithin (OfSome (λ (x : T) text. IsReport source statement p text)) old new before after → FailsWithin (IsReportBy file source statement) old new before after
   cut_by old new before after h = record { text = h.text; is_text = report_by h.text h.is_text.1; taken = h.taken; failed = h.failed }
 
-module _ {O T : Type 0} (taken : O → Option (List ℕ)) (failures : O → ℕ) (file : Option (List ℕ)) (source statement : List ℕ) (old new : O) (result : Result T ReportFault)
+module _ {O T : Type 0} (taken : O → Option (List ℕ)) (failures : O → ℕ) (file : Option (List ℕ)) (source : File) (statement : List ℕ) (old new : O) (result : Result T ReportFault)
     (answers : Priced file (λ p. Reports taken failures source statement p old new result) old new result) where
   pub prints : OnOk result (Prints (IsReportBy file source statement) (taken old) (taken new))
   prints = elim answers [

@@ -55,11 +55,12 @@ use Rattle.bound_reports.specs.TightReport.{HasNoTightReport, HasTightReport, Is
 use Rattle.bound_reports.specs.TightReport.{one_step as step_of_cost}
 use Rattle.bound_reports.specs.TightText.{IsEdgeFile, IsEdgeText}
 use Rattle.handlers.specs.declared.fault.ReportFault.{ReportFault}
-use Rattle.handlers.specs.declared.fault.ReportFault.TheVariants.{Memory, Source, Image, Statement, Graph, Loops, Load, Device}
+use Rattle.handlers.specs.declared.fault.ReportFault.TheVariants.{Memory, Source, Image, Dialect, Statement, Graph, Loops, Load, Device}
 use Rattle.handlers.specs.declared.fault.ReportFault.TheVariants as report_fault
 use Rattle.bound_reports.proofs.CommentLemmas.{IsPlainLine, after_comment, both_plain, digits_plain, printed_start}
 use Rattle.handlers.proofs.HandlerLemmas.{graph_refusals, one_graph, one_ok}
 use Rattle.handlers.proofs.PlacingLemmas.{lacks_after, one_machine_file}
+use Rattle.sources.specs.File.{File}
 
 -- ## The text
 
@@ -186,7 +187,7 @@ ran_alone s after i ran stepped next step plain quiet (other, last, other_step, 
     by_ends (more, (rest, at), is) =
         is ∙ ap (counted s.profile.burst i other) rest ∙ counted_alone
 
-module _ (source : List ℕ) (words : Words) (names : Names) (profile : Profile) (st : Stated) (edge : Edge) (f : file.Stated) (text : List ℕ) (said : source_of source ≡ Ok (words, names))
+module _ (source : File) (words : Words) (names : Names) (profile : Profile) (st : Stated) (edge : Edge) (f : file.Stated) (text : List ℕ) (said : source_of source ≡ Ok (words, names))
     (states : IsMachineFile text (Ok f)) (tight : IsTightFile words st profile edge f) (own : AreOf words words) where
   runnable : All (λ e. IsFitted e.0) words → (start : State) → IsStarted f profile start → IsRunnable source text profile
   runnable fitted start begun = record {
@@ -242,7 +243,7 @@ module _ (source : List ℕ) (words : Words) (names : Names) (profile : Profile)
 -- ## The report
 
 -- of a source and a statement that were read, and of their graph
-module _ (source statement : List ℕ) (n : ℕ) (profile : Profile) (words : Words) (names : Names) (said : source_of source ≡ Ok (words, names)) (st : Stated) (flow : Flow)
+module _ (source : File) (statement : List ℕ) (n : ℕ) (profile : Profile) (words : Words) (names : Names) (said : source_of source ≡ Ok (words, names)) (st : Stated) (flow : Flow)
     (read : IsStatement statement names (Ok st)) (none : (fault : BuildFault) → fault ≢ build_fault.Memory → IsBuildFault words st profile fault → ⊥) (is : IsFlowGraph words st profile flow) where
   graph : HasGraph source statement profile st flow
   graph = record { words = words; names = names; source_is = said; statement_is = read; no_fault = none; graph_is = is }
@@ -274,7 +275,7 @@ module _ (source statement : List ℕ) (n : ℕ) (profile : Profile) (words : Wo
   edge_refusal e (inl memory) = (λ d. cc (memory, d), subst (IsTightRefused source statement n profile) (sym memory) tt)
   edge_refusal e (inr r) = absurd r
 
-module _ (source statement : List ℕ) (n : ℕ) (profile : Profile) where
+module _ (source : File) (statement : List ℕ) (n : ℕ) (profile : Profile) where
   abbrev IsRefusal : ReportFault → Type 0
   IsRefusal = BeforeOutput (IsTightRefused source statement n profile)
 
@@ -283,6 +284,7 @@ module _ (source statement : List ℕ) (n : ℕ) (profile : Profile) where
   source_refused Memory h = (λ d. cc d, tt)
   source_refused (Source f) h = (λ d. cc d, h)
   source_refused (Image f) h = (λ d. cc d, h)
+  source_refused (Dialect f) h = (λ d. cc d, h)
   source_refused e h = absurd h
 
   -- those of the statement and the graph too, but those of the loops
@@ -291,6 +293,7 @@ module _ (source statement : List ℕ) (n : ℕ) (profile : Profile) where
   handler_refused (Loops f) other h = absurd (other f refl)
   handler_refused (Source f) other h = (λ d. cc d, h)
   handler_refused (Image f) other h = (λ d. cc d, h)
+  handler_refused (Dialect f) other h = (λ d. cc d, h)
   handler_refused (Statement f) other h = (λ d. cc d, h)
   handler_refused (Graph f) other h = (λ d. cc d, h)
   handler_refused e other h = absurd h
@@ -338,6 +341,7 @@ module _ (source statement : List ℕ) (n : ℕ) (profile : Profile) where
   tight_refusals (Load f) h r = absurd (not_refused h (Load f) r)
   tight_refusals (Source f) h r = of_handler h (Source f) (λ x is. cc is) r
   tight_refusals (Image f) h r = of_handler h (Image f) (λ x is. cc is) r
+  tight_refusals (Dialect f) h r = of_handler h (Dialect f) (λ x is. cc is) r
   tight_refusals (Statement f) h r = of_handler h (Statement f) (λ x is. cc is) r
   tight_refusals (Graph f) h r = of_handler h (Graph f) (λ x is. cc is) r
   tight_refusals e h r = absurd r
@@ -357,7 +361,7 @@ edge_alone words flow n (Graph f) (inr r) = r
 edge_alone words flow n (Loops f) (inr r) = r
 edge_alone words flow n e (inr r) = tt
 
-module _ (source statement : List ℕ) (said : ReadSource) (is : IsSource source said) (st : Stated) (flow : Flow) (g : HasGraph source statement flow.profile st flow) where
+module _ (source : File) (statement : List ℕ) (said : ReadSource) (is : IsSource source said) (st : Stated) (flow : Flow) (g : HasGraph source statement flow.profile st flow) where
   own_words : g.words ≡ said.image
   own_words = ap (λ (s : Said). s.0) (one_ok (g.words, g.names) (said.image, address_of said.labels) (source_of source) g.source_is is.said)
 

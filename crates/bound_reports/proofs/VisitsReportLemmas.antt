@@ -26,6 +26,7 @@ use Rattle.handlers.proofs.ReportLemmas.{accepted_refusals}
 use Rattle.handlers.proofs.VisitLemmas.{bounds_visited}
 use Rattle.handlers.proofs.VisitRateLemmas.{bounds_every}
 use Rattle.bound_reports.proofs.SummaryLemmas.{one_more}
+use Rattle.sources.specs.File.{File}
 
 -- ## One bound
 
@@ -35,7 +36,7 @@ one_greatest flow st n m g h =
     let down = g.upper h.walk h.complete h.kept in
     omega (arith, up, down, g.costs, h.costs)
 
-one_bound : (source statement : List ℕ) (profile : Profile) (r s : IsBounded source statement profile) → r.longest.bound ≡ s.longest.bound
+one_bound : (source : File) (statement : List ℕ) (profile : Profile) (r s : IsBounded source statement profile) → r.longest.bound ≡ s.longest.bound
 one_bound source statement profile r s =
     let a = r.accepted in
     let b = s.accepted in
@@ -87,7 +88,7 @@ module _ (rate : VisitRate) (profile : Profile) (irq fiq : ℕ) (t u : List ℕ)
 
 -- ## The report
 
-module _ (source : List ℕ) (own : Option (List ℕ)) (irq fiq : List ℕ) (rate : VisitRate) (profile : Profile) where
+module _ (source : File) (own : Option File) (irq fiq : List ℕ) (rate : VisitRate) (profile : Profile) where
   runs_of : (both : HaveReports source own irq fiq profile) (visits : Option ℕ) → AreMostVisits rate profile both.irq_is.bounded.longest.bound both.fiq_is.bounded.longest.bound visits
       → IfSome visits (BoundRuns source own irq fiq rate profile both)
   runs_of both None are = tt

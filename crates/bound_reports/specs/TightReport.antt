@@ -23,6 +23,7 @@ use Rattle.handlers.specs.Placing.{IsLoaded, IsRunnable}
 use Rattle.handlers.specs.Report.{HasGraph, IsHandlerRefused}
 use Rattle.handlers.specs.declared.fault.ReportFault.{ReportFault}
 use Rattle.handlers.specs.declared.fault.ReportFault.TheVariants as report_fault
+use Rattle.sources.specs.File.{File}
 
 -- `# edge ADDRESS skip|do TO COST`, a line of its own
 abbrev pub edge_line : Edge → List ℕ
@@ -35,7 +36,7 @@ one_step cost = record { steps = 1; ticks = cost; elapsed = cost; stopped = None
 -- The text is a machine file that `run` takes with the source. Its machine, with the words of the source and
 -- then of the file, has one input, with which its one step takes the edge at exactly its price; and each run
 -- of it is that step.
-pub record TakesEdge (source text : List ℕ) (profile : Profile) (words : Words) (st : Stated)
+pub record TakesEdge (source : File) (text : List ℕ) (profile : Profile) (words : Words) (st : Stated)
     (edge : Edge) : Type 0 where
   pub runnable : IsRunnable source text profile
   pub takes : (s : State) (inputs : List Input) → IsLoaded source text profile s inputs
@@ -80,7 +81,7 @@ module _ (words : Words) (flow : Flow) (n : ℕ) where
 
 -- ## The report
 
-module _ (source statement : List ℕ) (n : ℕ) (profile : Profile) where
+module _ (source : File) (statement : List ℕ) (n : ℕ) (profile : Profile) where
   -- the source and the statement have a graph, and its edge of the number is free
   pub record HasTightReport : Type 0 where
     pub stated : Stated
@@ -115,7 +116,7 @@ module _ (source statement : List ℕ) (n : ℕ) (profile : Profile) where
   IsTightRefused fault = IsHandlerRefused source statement profile fault
 
 -- the answer to a source, a statement and a number of an edge: its report
-abbrev pub ReportsTight : {O T : Type 0} → (O → Option (List ℕ)) → (O → ℕ) → List ℕ → List ℕ → ℕ → Profile
+abbrev pub ReportsTight : {O T : Type 0} → (O → Option (List ℕ)) → (O → ℕ) → File → List ℕ → ℕ → Profile
     → O → O → Result T ReportFault → Type 0
 ReportsTight taken failures source statement n profile old new result =
     Answers taken failures (λ _ text. IsTightReport source statement n profile text)

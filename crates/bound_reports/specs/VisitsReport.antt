@@ -18,6 +18,7 @@ use Rattle.handlers.specs.declared.fault.ReportFault.{ReportFault}
 use Rattle.handlers.specs.declared.fault.ReportFault.TheVariants as report_fault
 use Rattle.bound_reports.specs.declared.visit_rate.VisitRate.{VisitRate}
 use Rattle.bound_reports.specs.declared.visit_rate.VisitRate.TheVariants.{Times, Every}
+use Rattle.sources.specs.File.{File}
 
 -- ## How many visits
 
@@ -88,16 +89,16 @@ pub record AreTooMany (rate : VisitRate) (profile : Profile) (irq fiq : ℕ) : T
 -- ## Both handlers
 
 -- a source and a statement have this bound and this report
-abbrev pub HasBound : List ℕ → List ℕ → Profile → (bound : ℕ) → List ℕ → Type 0
+abbrev pub HasBound : File → List ℕ → Profile → (bound : ℕ) → List ℕ → Type 0
 HasBound source statement profile bound text =
     (stated : Stated) × IsBoundReport source statement profile stated bound text
 
 -- so have FIQ's, and the handler begins at FIQ's vector
-abbrev pub HasFiqBound : List ℕ → List ℕ → Profile → (bound : ℕ) → List ℕ → Type 0
+abbrev pub HasFiqBound : File → List ℕ → Profile → (bound : ℕ) → List ℕ → Type 0
 HasFiqBound source fiq profile bound text =
     (stated : Stated) × IsBoundReport source fiq profile stated bound text × (stated.entry ≡ FIQ_VECTOR)
 
-module _ (source : List ℕ) (own : Option (List ℕ)) (irq fiq : List ℕ) where
+module _ (source : File) (own : Option File) (irq fiq : List ℕ) where
   -- both handlers have reports, FIQ's begins at its vector, and no word of one is where one of the other is
   pub record HaveReports (profile : Profile) : Type 0 where
     pub apart : AreApart source own
@@ -147,12 +148,12 @@ module _ (source : List ℕ) (own : Option (List ℕ)) (irq fiq : List ℕ) wher
           both.fiq_is.bounded.longest.bound
 
 -- the sources and the statements on them, in the order of the work
-abbrev pub parts_of : (source : List ℕ) → (own : Option (List ℕ)) → (irq fiq : List ℕ) → List StatedSource
+abbrev pub parts_of : (source : File) → (own : Option File) → (irq fiq : List ℕ) → List StatedSource
 parts_of source own irq fiq = (source, irq) ∷ (fiq_bytes source own, fiq) ∷ []
 
 -- When each refusal is answered: those of the interrupted handler, then those of FIQ's, and last that the
 -- total is 2^63 ticks or more.
-abbrev pub AreRefused : List ℕ → Option (List ℕ) → List ℕ → List ℕ → VisitRate → Profile → ReportFault
+abbrev pub AreRefused : File → Option File → List ℕ → List ℕ → VisitRate → Profile → ReportFault
     → Type 0
 AreRefused source own irq fiq rate profile fault =
     IsRefused source irq profile fault
@@ -161,7 +162,7 @@ AreRefused source own irq fiq rate profile fault =
     × IsTotalTooLarge source own irq fiq rate profile))
 
 -- the answer to both sources, both statements and how often FIQ interrupts: their report
-abbrev pub ReportsVisits : {O : Type 0} → (O → Option (List ℕ)) → (O → ℕ) → List ℕ → Option (List ℕ)
+abbrev pub ReportsVisits : {O : Type 0} → (O → Option (List ℕ)) → (O → ℕ) → File → Option File
     → List ℕ → List ℕ → VisitRate → Profile → O → O → Result Bool ReportFault → Type 0
 ReportsVisits taken failures source own irq fiq rate profile old new result =
     Answers taken failures (IsVisitsReport source own irq fiq rate profile)

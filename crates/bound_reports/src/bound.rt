@@ -9,6 +9,7 @@ ghost use Rattle.handlers.specs.Refusal.{stop_fault};
 ghost use Rattle.handlers.specs.Report.{BeforeOutput, IsAccepted, IsBoundReport};
 ghost use Rattle.handlers.specs.Report.{IsRefused, IsReport, OfHandler};
 ghost use Rattle.sources.specs.Source.{Says};
+ghost use Rattle.sources.specs.File.{File, file_of};
 
 use bus_ticks::Profile;
 use cert_check::longest_gets_yes;
@@ -21,7 +22,7 @@ use handlers::{
 };
 use longest_walk::Longest;
 use outputs::Output;
-use sources::Source;
+use sources::{Source, SourceFile};
 use std::alloc::Global;
 
 // The greatest walk of a handler that was read, whose certificate is judged yes.
@@ -82,11 +83,11 @@ fn source_longest<'a>(
     statement: &'a [u8],
     profile: &Profile,
 ) -> Result<Longest, Stop<'a>>
-    ensures report { (source : List ℕ) → Says source said.now
+    ensures report { (source : File) → Says source said.now
         → IfOk result (λ found. IsReport source statement.now profile.now (cert_text (said_of found))) }
-    ensures accepted { (source : List ℕ) → Says source said.now
+    ensures accepted { (source : File) → Says source said.now
         → OnOk result (IsAccepted source statement.now profile.now) }
-    ensures fault { (source : List ℕ) → Says source said.now
+    ensures fault { (source : File) → Says source said.now
         → IfErr result (λ s. BeforeOutput (IsRefused source statement.now profile.now) (stop_fault s)) }
     ensures carries { IfErr result (Carries said.now statement.now profile.now) }
 {
@@ -97,16 +98,16 @@ fn source_longest<'a>(
 // The greatest walk of a source's handler.
 fn read_longest<'a>(
     alloc: Global,
-    source: &'a [u8],
+    source: SourceFile<'a>,
     statement: &'a [u8],
     profile: &Profile,
 ) -> Result<Longest, Refusal<'a>>
     ensures report { IfOk result
-        (λ found. IsReport source.now statement.now profile.now (cert_text (said_of found))) }
-    ensures accepted { OnOk result (IsAccepted source.now statement.now profile.now) }
+        (λ found. IsReport (file_of source.entry) statement.now profile.now (cert_text (said_of found))) }
+    ensures accepted { OnOk result (IsAccepted (file_of source.entry) statement.now profile.now) }
     ensures fault { IfErr (fault_only result)
-        (BeforeOutput (IsRefused source.now statement.now profile.now)) }
-    ensures carries { IfErr result (CarriesRead source.now (statement.now ∷ []) profile.now) }
+        (BeforeOutput (IsRefused (file_of source.entry) statement.now profile.now)) }
+    ensures carries { IfErr result (CarriesRead (file_of source.entry) (statement.now ∷ []) profile.now) }
 {
     let said = read_source(alloc, source)?;
     let found = source_longest(alloc, &said, statement, profile);
@@ -129,24 +130,26 @@ fn read_longest<'a>(
 /// After any but `Device` nothing was written.
 pub fn bound_report<O: Output>(
     alloc: Global,
-    source: &[u8],
+    source: SourceFile<'_>,
     statement: &[u8],
     profile: Option<&[u8]>,
     out: &mut O,
 ) -> Result<(), ReportFault>
     // Ok: the report was printed, of what is accepted.
-    ensures printed { OnOk result (Prints (IsReportBy (given profile.entry) source.now statement.now)
+    ensures printed { OnOk result (Prints
+        (IsReportBy (given profile.entry) (file_of source.entry) statement.now)
         (O.taken out.old) (O.taken out.new)) }
-    ensures accepted { OnOk result (AreAcceptedBy (given profile.entry) source.now statement.now) }
+    ensures accepted { OnOk result (AreAcceptedBy (given profile.entry) (file_of source.entry)
+        statement.now) }
 
     // Err: each refusal where it holds, and of what is accepted none but for lack of memory or by the output.
-    ensures refused { IfErr result (AreRefusedBy (given profile.entry) source.now statement.now) }
+    ensures refused { IfErr result (AreRefusedBy (given profile.entry) (file_of source.entry) statement.now) }
     ensures only { Priced (given profile.entry)
-        (λ p. IsAccepted source.now statement.now p
+        (λ p. IsAccepted (file_of source.entry) statement.now p
         → IfErr result (λ e. (e ≡ ReportFault.Memory) ⊎ (e ≡ ReportFault.Device))) out.old out.new result }
     ensures quiet { IfErr result (λ e. e ≢ ReportFault.Device → out.new ≡ out.old) }
     ensures cut { result ≡ Err ReportFault.Device
-        → FailsWithin (IsReportBy (given profile.entry) source.now statement.now)
+        → FailsWithin (IsReportBy (given profile.entry) (file_of source.entry) statement.now)
         (O.taken out.old) (O.taken out.new) (O.failures out.old) (O.failures out.new) }
 {
     fault_only(print_bound(alloc, source, statement, profile, out))
@@ -159,15 +162,16 @@ pub fn bound_report<O: Output>(
 /// Those of [`bound_report`].
 pub fn print_bound<'a, O: Output>(
     alloc: Global,
-    source: &'a [u8],
+    source: SourceFile<'a>,
     statement: &'a [u8],
     profile: Option<&'a [u8]>,
     out: &mut O,
 ) -> Result<(), Refusal<'a>>
     ensures answers { Priced (given profile.entry)
-        (λ p. Reports O.taken O.failures source.now statement.now p out.old out.new (fault_only result))
-        out.old out.new (fault_only result) }
-    ensures carries { IfErr result (CarriesReadBy (given profile.entry) source.now (statement.now ∷ [])) }
+        (λ p. Reports O.taken O.failures (file_of source.entry) statement.now p out.old out.new
+        (fault_only result)) out.old out.new (fault_only result) }
+    ensures carries { IfErr result (CarriesReadBy (given profile.entry) (file_of source.entry)
+        (statement.now ∷ [])) }
 {
     let profile = profile_of(alloc, profile)?;
     let found = read_longest(alloc, source, statement, &profile)?;

@@ -14,6 +14,7 @@ ghost use Rattle.bound_reports.specs.TightReport.{IsEdgeAt, IsEdgeRefused, IsTig
 ghost use Rattle.bound_reports.specs.TightReport.{ReportsTight, edge_line};
 ghost use Rattle.bound_reports.specs.TightText.{HasTightFile, IsEdgeFile, IsEdgeText};
 ghost use Rattle.sources.specs.Source.{IsSource};
+ghost use Rattle.sources.specs.File.{file_of};
 
 use bus_ticks::Profile;
 use certificate::write_edge;
@@ -27,7 +28,7 @@ use image::Image;
 use loader::LoadFault;
 use machine_file::{MachineFile, write_machine};
 use outputs::Output;
-use sources::Source;
+use sources::{Source, SourceFile};
 use statement::Statement;
 use std::alloc::{AllocError, Global};
 
@@ -133,7 +134,7 @@ fn edge_text(alloc: Global, stated: StatedGraph<'_>, number: u32) -> Result<Stri
 #[derive(Clone, Copy)]
 pub struct AskedEdge<'a> {
     /// The bytes of the handler's source, a text or an image.
-    pub source: &'a [u8],
+    pub source: SourceFile<'a>,
     /// The text of the statement on it.
     pub statement: &'a [u8],
     pub number: u32,
@@ -145,14 +146,14 @@ fn graph_edge(
     asked: AskedEdge<'_>,
     stated: StatedGraph<'_>,
 ) -> Result<String, ReportFault>
-    requires said { IsSource asked.source.now stated.source.now }
-    requires graph { HasGraph asked.source.now asked.statement.now stated.graph.now.profile
+    requires said { IsSource (file_of asked.source) stated.source.now }
+    requires graph { HasGraph (file_of asked.source) asked.statement.now stated.graph.now.profile
         stated.statement.now stated.graph.now }
-    ensures report { IfOk result (λ text. IsTightReport asked.entry.source.now asked.entry.statement.now
+    ensures report { IfOk result (λ text. IsTightReport (file_of asked.entry.source) asked.entry.statement.now
         asked.entry.number stated.entry.graph.now.profile (string_bytes text)) }
     ensures fault { IfErr result
-        (BeforeOutput (IsTightRefused asked.entry.source.now asked.entry.statement.now asked.entry.number
-        stated.entry.graph.now.profile)) }
+        (BeforeOutput (IsTightRefused (file_of asked.entry.source) asked.entry.statement.now
+        asked.entry.number stated.entry.graph.now.profile)) }
     ensures alone { IfErr result ComesAlone }
 {
     edge_text(alloc, stated, asked.number)
@@ -165,11 +166,11 @@ fn source_graph<'a>(
     asked: AskedEdge<'a>,
     profile: &Profile,
 ) -> Result<(Statement, Graph), Stop<'a>>
-    requires { IsSource asked.source.now said.now }
+    requires { IsSource (file_of asked.source) said.now }
     ensures graph { IfOk result
-        (λ g. HasGraph asked.entry.source.now asked.entry.statement.now profile.now g.0 g.1) }
+        (λ g. HasGraph (file_of asked.entry.source) asked.entry.statement.now profile.now g.0 g.1) }
     ensures fault { IfErr result
-        (λ s. BeforeOutput (IsTightRefused asked.entry.source.now asked.entry.statement.now
+        (λ s. BeforeOutput (IsTightRefused (file_of asked.entry.source) asked.entry.statement.now
         asked.entry.number profile.now) (stop_fault s)) }
     ensures carries { IfErr result (Carries said.now asked.entry.statement.now profile.now) }
 {
@@ -187,11 +188,11 @@ fn source_edge<'a>(
     asked: AskedEdge<'a>,
     profile: &Profile,
 ) -> Result<String, Stop<'a>>
-    requires { IsSource asked.source.now said.now }
-    ensures report { IfOk result (λ text. IsTightReport asked.entry.source.now asked.entry.statement.now
+    requires { IsSource (file_of asked.source) said.now }
+    ensures report { IfOk result (λ text. IsTightReport (file_of asked.entry.source) asked.entry.statement.now
         asked.entry.number profile.now (string_bytes text)) }
     ensures fault { IfErr result
-        (λ s. BeforeOutput (IsTightRefused asked.entry.source.now asked.entry.statement.now
+        (λ s. BeforeOutput (IsTightRefused (file_of asked.entry.source) asked.entry.statement.now
         asked.entry.number profile.now) (stop_fault s)) }
     ensures carries { IfErr result (Carries said.now asked.entry.statement.now profile.now) }
 {
@@ -210,13 +211,13 @@ fn read_edge<'a>(
     asked: AskedEdge<'a>,
     profile: &Profile,
 ) -> Result<String, Refusal<'a>>
-    ensures report { IfOk result (λ text. IsTightReport asked.entry.source.now asked.entry.statement.now
+    ensures report { IfOk result (λ text. IsTightReport (file_of asked.entry.source) asked.entry.statement.now
         asked.entry.number profile.now (string_bytes text)) }
     ensures fault { IfErr (fault_only result)
-        (BeforeOutput (IsTightRefused asked.entry.source.now asked.entry.statement.now asked.entry.number
-        profile.now)) }
+        (BeforeOutput (IsTightRefused (file_of asked.entry.source) asked.entry.statement.now
+        asked.entry.number profile.now)) }
     ensures carries { IfErr result
-        (CarriesRead asked.entry.source.now (asked.entry.statement.now ∷ []) profile.now) }
+        (CarriesRead (file_of asked.entry.source) (asked.entry.statement.now ∷ []) profile.now) }
 {
     let said = read_source(alloc, asked.source)?;
     let text = source_edge(alloc, &said, asked, profile);
@@ -237,15 +238,15 @@ fn read_edge<'a>(
 /// After any but `Device` nothing was written.
 pub fn tight_report<O: Output>(
     alloc: Global,
-    source: &[u8],
+    source: SourceFile<'_>,
     statement: &[u8],
     edge: u32,
     profile: Option<&[u8]>,
     out: &mut O,
 ) -> Result<(), ReportFault>
     ensures { Priced (given profile.entry)
-        (λ p. ReportsTight O.taken O.failures source.now statement.now edge p out.old out.new result) out.old
-        out.new result }
+        (λ p. ReportsTight O.taken O.failures (file_of source.entry) statement.now edge p out.old out.new
+        result) out.old out.new result }
 {
     let asked = AskedEdge {
         source,
@@ -267,9 +268,9 @@ pub fn print_tight<'a, O: Output>(
     out: &mut O,
 ) -> Result<(), Refusal<'a>>
     ensures answers { Priced (given profile.entry)
-        (λ p. ReportsTight O.taken O.failures asked.entry.source.now asked.entry.statement.now
+        (λ p. ReportsTight O.taken O.failures (file_of asked.entry.source) asked.entry.statement.now
         asked.entry.number p out.old out.new (fault_only result)) out.old out.new (fault_only result) }
-    ensures carries { IfErr result (CarriesReadBy (given profile.entry) asked.entry.source.now
+    ensures carries { IfErr result (CarriesReadBy (given profile.entry) (file_of asked.entry.source)
         (asked.entry.statement.now ∷ [])) }
 {
     let profile = profile_of(alloc, profile)?;

@@ -1,4 +1,4 @@
-ghost use Rattle.std.specs.Prelude.{◌≡◌, ◌⊎◌, ◌∷◌, [], List, ℕ, None, Some, IfErr, IfOk, OnOk};
+ghost use Rattle.std.specs.Prelude.{◌≡◌, ◌⊎◌, ◌∷◌, [], List, ℕ, None, Some, IfErr, IfOk, OnOk, option_map};
 ghost use Rattle.handlers.specs.Priced.{Priced, given};
 ghost use Rattle.handlers.specs.FiqHandler.{AreApart, IsFiqRefused, IsFiqsRefused, fiq_bytes};
 ghost use Rattle.handlers.specs.Meeting.{SourcesShare};
@@ -9,6 +9,7 @@ ghost use Rattle.sources.specs.Source.{IsSource, Says};
 ghost use Rattle.handlers.specs.VisitStops.{refusal_on};
 ghost use Rattle.bound_reports.specs.VisitsReport.{AreJoined, AreRefused, AreTooMany, HasBound};
 ghost use Rattle.bound_reports.specs.VisitsReport.{HasFiqBound, IsVisitsReport, ReportsVisits, parts_of};
+ghost use Rattle.sources.specs.File.{File, file_of};
 
 use crate::bound::{BoundReport, longest_report};
 use crate::visit_rate::{VisitRate, most_visits};
@@ -20,18 +21,18 @@ use handlers::{
 };
 use longest_walk::WalkFault;
 use outputs::Output;
-use sources::Source;
+use sources::{Source, SourceFile};
 use std::alloc::Global;
 
 /// An interrupt handler, FIQ's, and how often FIQ interrupts it.
 #[derive(Clone, Copy)]
 pub struct VisitedHandler<'a> {
     /// The bytes of the source of the interrupted handler, a text or an image.
-    pub source: &'a [u8],
+    pub source: SourceFile<'a>,
     /// The text of the statement on that handler.
     pub irq: &'a [u8],
     /// The bytes of the source of FIQ's handler, where it is another one. Both are loaded at the same time.
-    pub fiq_source: Option<&'a [u8]>,
+    pub fiq_source: Option<SourceFile<'a>>,
     /// The text of the statement on FIQ's handler.
     pub fiq: &'a [u8],
     /// How often FIQ interrupts the handler.
@@ -52,9 +53,9 @@ fn irq_report<'a>(
     statement: &'a [u8],
     profile: &Profile,
 ) -> Result<BoundReport, Stop<'a>>
-    ensures report { (source : List ℕ) → Says source said.now
+    ensures report { (source : File) → Says source said.now
         → IfOk result (λ r. HasBound source statement.now profile.now r.bound r.text.items) }
-    ensures fault { (source : List ℕ) → Says source said.now
+    ensures fault { (source : File) → Says source said.now
         → IfErr result (λ s. BeforeOutput (IsRefused source statement.now profile.now) (stop_fault s)) }
     ensures carries { IfErr result (Carries said.now statement.now profile.now) }
 {
@@ -69,9 +70,9 @@ fn fiq_report<'a>(
     statement: &'a [u8],
     profile: &Profile,
 ) -> Result<BoundReport, Stop<'a>>
-    ensures report { (source : List ℕ) → Says source said.now
+    ensures report { (source : File) → Says source said.now
         → IfOk result (λ r. HasFiqBound source statement.now profile.now r.bound r.text.items) }
-    ensures fault { (source : List ℕ) → Says source said.now
+    ensures fault { (source : File) → Says source said.now
         → IfErr result (λ s. BeforeOutput (IsFiqRefused source statement.now profile.now) (stop_fault s)) }
     ensures carries { IfErr result (Carries said.now statement.now profile.now) }
 {
@@ -84,18 +85,18 @@ fn fiq_report<'a>(
 fn own_report<'a>(
     alloc: Global,
     said: &Source<'_>,
-    own: &'a [u8],
+    own: SourceFile<'a>,
     statement: &'a [u8],
     profile: &Profile,
 ) -> Result<BoundReport, Refusal<'a>>
-    ensures apart { (source : List ℕ) → Says source said.now
-        → OnOk result (SourcesShare source own.now None) }
+    ensures apart { (source : File) → Says source said.now
+        → OnOk result (SourcesShare source (file_of own.entry) None) }
     ensures report { IfOk result
-        (λ r. HasFiqBound own.now statement.now profile.now r.bound r.text.items) }
-    ensures fault { (source : List ℕ) → Says source said.now
+        (λ r. HasFiqBound (file_of own.entry) statement.now profile.now r.bound r.text.items) }
+    ensures fault { (source : File) → Says source said.now
         → IfErr (fault_only result)
-        (BeforeOutput (IsFiqsRefused source (Some own.now) statement.now profile.now)) }
-    ensures carries { IfErr result (CarriesReadOf ((own.now, statement.now) ∷ []) profile.now) }
+        (BeforeOutput (IsFiqsRefused source (Some (file_of own.entry)) statement.now profile.now)) }
+    ensures carries { IfErr result (CarriesReadOf ((file_of own.entry, statement.now) ∷ []) profile.now) }
 {
     let read = read_apart(alloc, said, own)?;
     let report = fiq_report(alloc, &read, statement, profile);
@@ -109,18 +110,18 @@ fn fiqs_report<'a>(
     asked: VisitedHandler<'a>,
     profile: &Profile,
 ) -> Result<BoundReport, VisitStop<'a>>
-    ensures apart { (source : List ℕ) → Says source said.now
-        → OnOk result (AreApart source (given asked.entry.fiq_source)) }
-    ensures report { (source : List ℕ) → Says source said.now
-        → IfOk result (λ r. HasFiqBound (fiq_bytes source (given asked.entry.fiq_source))
+    ensures apart { (source : File) → Says source said.now
+        → OnOk result (AreApart source (option_map file_of asked.entry.fiq_source)) }
+    ensures report { (source : File) → Says source said.now
+        → IfOk result (λ r. HasFiqBound (fiq_bytes source (option_map file_of asked.entry.fiq_source))
         asked.entry.fiq.now profile.now r.bound r.text.items) }
-    ensures fault { (source : List ℕ) → Says source said.now
+    ensures fault { (source : File) → Says source said.now
         → IfErr result
-        (λ s. BeforeOutput (IsFiqsRefused source (given asked.entry.fiq_source) asked.entry.fiq.now
-        profile.now) (refusal_fault (refusal_on said.now s))) }
-    ensures carries { (source : List ℕ) → IsSource source said.now
+        (λ s. BeforeOutput (IsFiqsRefused source (option_map file_of asked.entry.fiq_source)
+        asked.entry.fiq.now profile.now) (refusal_fault (refusal_on said.now s))) }
+    ensures carries { (source : File) → IsSource source said.now
         → IfErr result (λ s. CarriesReadOf
-        ((fiq_bytes source (given asked.entry.fiq_source), asked.entry.fiq.now) ∷ []) profile.now
+        ((fiq_bytes source (option_map file_of asked.entry.fiq_source), asked.entry.fiq.now) ∷ []) profile.now
         (refusal_on said.now s)) }
 {
     match asked.fiq_source {
@@ -165,16 +166,16 @@ fn source_visits<'a>(
     asked: VisitedHandler<'a>,
     profile: &Profile,
 ) -> Result<VisitsText, VisitStop<'a>>
-    ensures report { (source : List ℕ) → Says source said.now
-        → IfOk result (λ v. IsVisitsReport source (given asked.entry.fiq_source) asked.entry.irq.now
-        asked.entry.fiq.now asked.entry.rate profile.now v.ends v.text.items) }
-    ensures fault { (source : List ℕ) → Says source said.now
+    ensures report { (source : File) → Says source said.now
+        → IfOk result (λ v. IsVisitsReport source (option_map file_of asked.entry.fiq_source)
+        asked.entry.irq.now asked.entry.fiq.now asked.entry.rate profile.now v.ends v.text.items) }
+    ensures fault { (source : File) → Says source said.now
         → IfErr result
-        (λ s. BeforeOutput (AreRefused source (given asked.entry.fiq_source) asked.entry.irq.now
+        (λ s. BeforeOutput (AreRefused source (option_map file_of asked.entry.fiq_source) asked.entry.irq.now
         asked.entry.fiq.now asked.entry.rate profile.now) (refusal_fault (refusal_on said.now s))) }
-    ensures carries { (source : List ℕ) → IsSource source said.now
+    ensures carries { (source : File) → IsSource source said.now
         → IfErr result (λ s. CarriesReadOf
-        (parts_of source (given asked.entry.fiq_source) asked.entry.irq.now asked.entry.fiq.now)
+        (parts_of source (option_map file_of asked.entry.fiq_source) asked.entry.irq.now asked.entry.fiq.now)
         profile.now (refusal_on said.now s)) }
 {
     let irq = irq_report(alloc, said, asked.irq, profile)?;
@@ -189,13 +190,13 @@ fn read_visits<'a>(
     profile: &Profile,
 ) -> Result<VisitsText, Refusal<'a>>
     ensures report { IfOk result
-        (λ v. IsVisitsReport asked.entry.source.now (given asked.entry.fiq_source) asked.entry.irq.now
-        asked.entry.fiq.now asked.entry.rate profile.now v.ends v.text.items) }
+        (λ v. IsVisitsReport (file_of asked.entry.source) (option_map file_of asked.entry.fiq_source)
+        asked.entry.irq.now asked.entry.fiq.now asked.entry.rate profile.now v.ends v.text.items) }
     ensures fault { IfErr (fault_only result)
-        (BeforeOutput (AreRefused asked.entry.source.now (given asked.entry.fiq_source)
+        (BeforeOutput (AreRefused (file_of asked.entry.source) (option_map file_of asked.entry.fiq_source)
         asked.entry.irq.now asked.entry.fiq.now asked.entry.rate profile.now)) }
     ensures carries { IfErr result (CarriesReadOf
-        (parts_of asked.entry.source.now (given asked.entry.fiq_source) asked.entry.irq.now
+        (parts_of (file_of asked.entry.source) (option_map file_of asked.entry.fiq_source) asked.entry.irq.now
         asked.entry.fiq.now) profile.now) }
 {
     let said = read_source(alloc, asked.source)?;
@@ -229,11 +230,12 @@ pub fn visits_report<'a, O: Output>(
     out: &mut O,
 ) -> Result<bool, Refusal<'a>>
     ensures answers { Priced (given profile.entry)
-        (λ p. ReportsVisits O.taken O.failures asked.entry.source.now (given asked.entry.fiq_source)
+        (λ p. ReportsVisits O.taken O.failures (file_of asked.entry.source)
+        (option_map file_of asked.entry.fiq_source)
         asked.entry.irq.now asked.entry.fiq.now asked.entry.rate p out.old out.new (fault_only result))
         out.old out.new (fault_only result) }
     ensures carries { IfErr result (CarriesBy (given profile.entry) (CarriesReadOf
-        (parts_of asked.entry.source.now (given asked.entry.fiq_source) asked.entry.irq.now
+        (parts_of (file_of asked.entry.source) (option_map file_of asked.entry.fiq_source) asked.entry.irq.now
         asked.entry.fiq.now))) }
 {
     let profile = profile_of(alloc, profile)?;

@@ -64,6 +64,9 @@ why = argument (codes "why") form.Why
 abbrev pub progress : Argument
 progress = argument (codes "progress") form.Progress
 
+abbrev pub dialect : Argument
+dialect = argument (codes "dialect") form.DialectOption
+
 abbrev pub usages : List Usage
 usages =
     usage (codes "asm") command.Asm (source ∷ argument (codes "image") form.Word ∷ [])
@@ -77,6 +80,8 @@ usages =
     (profile ∷ source ∷ machine ∷ other (codes "to") form.WordOption command.TraceTo
     ∷ argument (codes "json") form.Json ∷ [])
     ∷ usage (codes "debug") command.Debug (profile ∷ source ∷ machine ∷ [])
+    ∷ usage (codes "vectors") command.Vectors
+    (argument (codes "vectors") form.VectorCount ∷ argument (codes "seed") form.SeedOption ∷ [])
     ∷ usage (codes "bound") command.Bound
     (profile ∷ source ∷ statement ∷ other (codes "tight") form.NumberOption command.Tight ∷ [])
     ∷ usage (codes "check") command.Check
@@ -136,6 +141,10 @@ in_ticks rule = record rule { value_names = 1; parser = Some (parser.Unsigned 0 
 abbrev pub in_columns : Rule → Rule
 in_columns rule = record rule { value_names = 1; parser = Some (parser.Signed (pos 80) (pos 250)) }
 
+-- an argument's value is how many vectors are wanted
+abbrev pub counted : Rule → Rule
+counted rule = record rule { value_names = 1; parser = Some (parser.Signed (pos 1) (pos 1000000)) }
+
 abbrev pub rule_by : Form → Text → Rule
 rule_by form.File id = required_rule id
 rule_by form.Word id = required_rule id
@@ -147,7 +156,10 @@ rule_by form.FiqStatementOption id = record (option_rule id) { value_names = 1 }
 rule_by form.FiqSourceOption id = record (option_rule id) { value_names = 1 }
 rule_by form.FilesOption id = record (option_rule id) { value_names = 1; action = Some Append }
 rule_by form.WordOption id = record (option_rule id) { value_names = 1 }
+rule_by form.DialectOption id = record (option_rule id) { value_names = 1 }
+rule_by form.VectorCount id = counted (required_rule id)
 rule_by form.NumberOption id = numbered (option_rule id)
+rule_by form.SeedOption id = numbered (record (option_rule id) { required = true })
 rule_by form.TicksOption id = in_ticks (option_rule id)
 rule_by form.WidthOption id = in_columns (option_rule id)
 rule_by form.Why id = record (option_rule id) { action = Some SetTrue }
@@ -167,7 +179,9 @@ with_arguments app arguments = fold (λ (a : App) argument. with_rule a (rule_as
 
 abbrev pub app_in : Usage → App
 app_in u =
-    with_rule (with_rule (with_arguments (new_app u.name) u.arguments) (rule_as why)) (rule_as progress)
+    with_rule
+    (with_rule (with_rule (with_arguments (new_app u.name) u.arguments) (rule_as why)) (rule_as progress))
+    (rule_as dialect)
 
 -- a command with these subcommands
 abbrev pub with_commands : App → List Usage → App
@@ -186,7 +200,7 @@ arcwcet_command = with_commands arcwcet_top usages
 -- a command; whether to print what shows the reason of a refusal, what is being done, the bound of each
 -- destination alone, first starts, and each row of a table; whether of the files of `respond` the first
 -- behind the second are FIQ's statement and its source; whether to draw the path alone, and whether to print a
--- page in place of a drawing, and lines of JSON; the names of files, the cycle profile's apart; a word that names no file to be
+-- page in place of a drawing, and lines of JSON; the dialect of sources, if it is named; the names of files, the cycle profile's apart; a word that names no file to be
 -- read; and numbers
 pub record Asked : Type 0 where
   pub command : Command
@@ -200,6 +214,7 @@ pub record Asked : Type 0 where
   pub path : Bool
   pub html : Bool
   pub json : Bool
+  pub dialect : Option Text
   pub profile : Option Text
   pub files : List Text
   pub word : Text
@@ -220,6 +235,7 @@ plainly command numbers =
       path = false;
       html = false;
       json = false;
+      dialect = None;
       profile = None;
       files = [];
       word = [];
@@ -254,6 +270,8 @@ numbers_in rows =
       within = ticks_at (codes "within") rows;
       top = number_at (codes "top") rows;
       width = number_at (codes "width") rows;
+      vectors = number_at (codes "vectors") rows;
+      seed = number_at (codes "seed") rows;
     }
 
 abbrev pub no_numbers : CommandNumbers
@@ -271,6 +289,8 @@ no_numbers =
       within = None;
       top = None;
       width = None;
+      vectors = None;
+      seed = None;
     }
 
 -- whether a word names a file, where it may be a label or an address too: it has a `.` or a `/`, and these
@@ -293,6 +313,7 @@ with_value_by form.WordOption word asked = record asked { word = word }
 with_value_by form.FileOrWord value asked =
     if names_file value then with_file value asked else record asked { word = value }
 with_value_by form.ProfileOption name asked = record asked { profile = Some name }
+with_value_by form.DialectOption name asked = record asked { dialect = Some name }
 with_value_by form.Why value asked = record asked { why = bytes_eq value (codes "true") }
 with_value_by form.Progress value asked = record asked { progress = bytes_eq value (codes "true") }
 with_value_by form.Each value asked = record asked { each = bytes_eq value (codes "true") }
@@ -302,7 +323,9 @@ with_value_by form.Path value asked = record asked { path = bytes_eq value (code
 with_value_by form.Html value asked = record asked { html = bytes_eq value (codes "true") }
 with_value_by form.Json value asked = record asked { json = bytes_eq value (codes "true") }
 with_value_by form.OptionalNumber value asked = asked
+with_value_by form.VectorCount value asked = asked
 with_value_by form.NumberOption value asked = asked
+with_value_by form.SeedOption value asked = asked
 with_value_by form.TicksOption value asked = asked
 with_value_by form.WidthOption value asked = asked
 
@@ -328,7 +351,10 @@ with_argument rows asked a =
 abbrev pub asked_as : Usage → List Row → Asked
 asked_as u rows =
     with_argument rows
-    (with_argument rows (fold (with_argument rows) (plainly u.command (numbers_in rows)) u.arguments) why) progress
+    (with_argument rows
+    (with_argument rows (fold (with_argument rows) (plainly u.command (numbers_in rows)) u.arguments) why)
+    progress)
+    dialect
 
 -- one of two numbers is given, and the other not
 abbrev pub is_one : Option ℕ → Option ℕ → Bool
@@ -363,8 +389,13 @@ is_allowed_of command.Verdict asked =
     && (is_none asked.numbers.bursts && is_none asked.numbers.burst_every))))))
 is_allowed_of c asked = true
 
+-- a dialect that is named is known
+abbrev pub is_known : Option Text → Bool
+is_known None = true
+is_known (Some name) = bytes_eq name (codes "objasm")
+
 abbrev pub is_allowed : Asked → Bool
-is_allowed asked = is_allowed_of asked.command asked
+is_allowed asked = is_known asked.dialect && is_allowed_of asked.command asked
 
 abbrev pub allowed : Asked → Option Asked
 allowed asked = if is_allowed asked then Some asked else None

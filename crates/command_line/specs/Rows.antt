@@ -27,6 +27,7 @@ asked_of q =
       path = q.path;
       html = q.html;
       json = q.json;
+      dialect = option_map (λ s. s.now) q.dialect;
       profile = option_map (λ s. s.now) q.profile;
       files = map (λ s. s.now) q.files.items;
       word = q.word.now;

@@ -27,12 +27,18 @@ pub(crate) enum Form {
     FilesOption,
     /// A word that names no file to be read, by an option.
     WordOption,
+    /// How many vectors are printed, from 1 to 1,000,000, in its place.
+    VectorCount,
     /// A whole number of 32 bits, by an option.
     NumberOption,
+    /// A whole number of 32 bits, by an option that has to be given.
+    SeedOption,
     /// A number of ticks, to 2^63 - 1, by an option.
     TicksOption,
     /// The last column of a row, from 80 to 250, by an option.
     WidthOption,
+    /// The name of what sources are written in, by an option.
+    DialectOption,
     /// The option that asks for what shows the reason of a refusal.
     Why,
     /// The option that asks for lines on what is being done.
@@ -62,7 +68,7 @@ pub(crate) struct ArgumentRow {
 
 /// A command: its name, what it asks for, what the help says of it, and its arguments, with the files in the
 /// order in which they are read: an option's too, so that `--fiq` stands before the machine file. Each
-/// command has [`WHY`] and [`PROGRESS`] too.
+/// command has [`DIALECT`], [`WHY`] and [`PROGRESS`] too.
 pub(crate) struct CommandRow {
     pub name: &'static str,
     pub command: Command,
@@ -78,11 +84,19 @@ pub(crate) const WHY: ArgumentRow = ArgumentRow {
     instead: None,
 };
 
-/// The other one.
+/// The second.
 pub(crate) const PROGRESS: ArgumentRow = ArgumentRow {
     id: "progress",
     form: Form::Progress,
     help: "Print on standard error what is being done",
+    instead: None,
+};
+
+/// The third.
+pub(crate) const DIALECT: ArgumentRow = ArgumentRow {
+    id: "dialect",
+    form: Form::DialectOption,
+    help: "What sources are written in: objasm [default: what their first lines say]",
     instead: None,
 };
 
@@ -373,8 +387,22 @@ const RESPONSE_WAITED: ArgumentRow = ArgumentRow {
     instead: None,
 };
 
+const VECTOR_COUNT: ArgumentRow = ArgumentRow {
+    id: "vectors",
+    form: Form::VectorCount,
+    help: "How many vectors, from 1 to 1000000",
+    instead: None,
+};
+
+const SEED: ArgumentRow = ArgumentRow {
+    id: "seed",
+    form: Form::SeedOption,
+    help: "What they are drawn from: the same seed gives the same vectors",
+    instead: None,
+};
+
 /// The commands, in the order of the help.
-pub(crate) const COMMANDS: [CommandRow; 15] = [
+pub(crate) const COMMANDS: [CommandRow; 16] = [
     CommandRow {
         name: "asm",
         command: Command::Asm,
@@ -416,6 +444,12 @@ pub(crate) const COMMANDS: [CommandRow; 15] = [
         command: Command::Debug,
         summary: "Obey the debugger's commands on standard input",
         arguments: &[PROFILE, SOURCE, MACHINE],
+    },
+    CommandRow {
+        name: "vectors",
+        command: Command::Vectors,
+        summary: "Print tests of single instructions for emulators, as JSON",
+        arguments: &[VECTOR_COUNT, SEED],
     },
     CommandRow {
         name: "bound",

@@ -6,7 +6,9 @@ ghost use Rattle.clap.specs.declared.builder.command.Command.TheViews.{out-Comma
 ghost use Rattle.command_line.specs.Line.{app_in, arcwcet_command, rule_as, with_commands};
 ghost use Rattle.command_line.specs.Rows.{argument_of, usage_of};
 
-use crate::command_rows::{ArgumentRow, COMMANDS, CommandRow, Form, PROGRESS, VERSION, WHY};
+use crate::command_rows::{
+    ArgumentRow, COMMANDS, CommandRow, DIALECT, Form, PROGRESS, VERSION, WHY,
+};
 use clap::{Arg, ArgAction, Command, value_parser};
 use std::alloc::{AllocError, Global};
 
@@ -25,6 +27,16 @@ fn argument<'a>(alloc: Global, row: &ArgumentRow) -> Arg<'a>
             .value_name("FILE")
             .action(ArgAction::Append),
         Form::WordOption => arg.long(row.id).value_name("LABEL"),
+        Form::DialectOption => arg.long(row.id).value_name("DIALECT"),
+        Form::VectorCount => arg
+            .required(true)
+            .value_name("N")
+            .value_parser(value_parser!(u32).range(1..=1_000_000)),
+        Form::SeedOption => arg
+            .required(true)
+            .long(row.id)
+            .value_name("S")
+            .value_parser(value_parser!(u32)),
         Form::NumberOption => arg
             .long(row.id)
             .value_name("N")
@@ -57,7 +69,8 @@ fn command<'a>(alloc: Global, row: &CommandRow) -> Result<Command<'a>, AllocErro
         command = command.arg(argument(alloc, argument_row))?;
     }
     let command = command.arg(argument(alloc, &WHY))?;
-    command.arg(argument(alloc, &PROGRESS))
+    let command = command.arg(argument(alloc, &PROGRESS))?;
+    command.arg(argument(alloc, &DIALECT))
 }
 
 // A command with those of the rows.

@@ -24,6 +24,9 @@ pub enum Command {
     Trace,
     /// The same of the run that ends before the instruction at [`Request::word`], a label or an address.
     TraceTo,
+    /// So many test vectors as [`CommandNumbers::vectors`] says, by the seed [`CommandNumbers::seed`]. It reads no
+    /// file.
+    Vectors,
     /// A session of the debugger on that machine, by the commands on standard input.
     Debug,
     /// The greatest run time of the handler in a source, under a statement.
@@ -83,6 +86,10 @@ pub struct CommandNumbers {
     pub top: Option<u32>,
     /// The last column of its rows, from 80 to 250.
     pub width: Option<u32>,
+    /// How many test vectors are printed, from 1 to 1,000,000.
+    pub vectors: Option<u32>,
+    /// What they are drawn from.
+    pub seed: Option<u32>,
 }
 
 /// What a line of words asks for.
@@ -109,6 +116,8 @@ pub struct Request<'a> {
     pub html: bool,
     /// Whether of a trace lines of JSON are to be printed.
     pub json: bool,
+    /// What the texts of its sources are written in, where that is named: `objasm`.
+    pub dialect: Option<&'a str>,
     /// The name of a cycle profile's file.
     pub profile: Option<&'a str>,
     /// The names of the other files to be read, in their order.
@@ -125,6 +134,8 @@ pub enum CommandLineFault {
     Memory,
     /// The command-line crate's own refusal, or its help.
     Usage(Error),
+    /// A dialect is named that is not `objasm`.
+    UnknownDialect,
     /// `asm` would write the image over its source.
     SourceReplaced,
     /// `visits` is given neither a number of visits nor a period, or both, or a number and FIQ's wait.

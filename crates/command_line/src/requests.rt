@@ -6,12 +6,13 @@ ghost use Rattle.clap.specs.Matches.{found_of};
 ghost use Rattle.clap.specs.Walk.{rows_of};
 ghost use Rattle.clap.specs.Words.{kind_of, subcommand_rows_of};
 ghost use Rattle.command_line.specs.Line.{are_fiq_options, asked_as, asked_by, asked_in, asks_version};
-ghost use Rattle.command_line.specs.Line.{command_by, is_allowed, is_one, is_rate};
+ghost use Rattle.command_line.specs.Line.{command_by, is_allowed, is_allowed_of, is_known};
+ghost use Rattle.command_line.specs.Line.{is_one, is_rate};
 ghost use Rattle.command_line.specs.Line.{names_file, no_numbers, number_at, numbers_in, plainly};
 ghost use Rattle.command_line.specs.Line.{ticks_at, with_argument, with_value, with_value_by};
 ghost use Rattle.command_line.specs.Rows.{argument_of, asked_of, usage_of};
 
-use crate::command_rows::{ArgumentRow, COMMANDS, CommandRow, Form, PROGRESS, WHY};
+use crate::command_rows::{ArgumentRow, COMMANDS, CommandRow, DIALECT, Form, PROGRESS, WHY};
 use crate::commands::arcwcet;
 use crate::line::{Command, CommandLineFault, CommandNumbers, Request};
 use clap::error::ErrorKind;
@@ -48,6 +49,8 @@ fn numbers_in(values: &ArgMatches<'_>) -> CommandNumbers
         within: ticks_at(values, "within"),
         top: number_at(values, "top"),
         width: number_at(values, "width"),
+        vectors: number_at(values, "vectors"),
+        seed: number_at(values, "seed"),
     }
 }
 
@@ -125,6 +128,7 @@ fn add_value<'a>(
         Form::FileOrWord => add_file_or_word(request, value)?,
         Form::Word | Form::WordOption => request.word = value,
         Form::ProfileOption => request.profile = Some(value),
+        Form::DialectOption => request.dialect = Some(value),
         Form::Why => request.why = value == "true",
         Form::Progress => request.progress = value == "true",
         Form::Each => request.each = value == "true",
@@ -133,7 +137,12 @@ fn add_value<'a>(
         Form::Path => request.path = value == "true",
         Form::Html => request.html = value == "true",
         Form::Json => request.json = value == "true",
-        Form::OptionalNumber | Form::NumberOption | Form::TicksOption | Form::WidthOption => {}
+        Form::OptionalNumber
+        | Form::VectorCount
+        | Form::NumberOption
+        | Form::SeedOption
+        | Form::TicksOption
+        | Form::WidthOption => {}
     }
     Ok(())
 }
@@ -177,6 +186,7 @@ fn asked<'a>(
         path: false,
         html: false,
         json: false,
+        dialect: None,
         profile: None,
         files: Vec::new(alloc),
         word: "",
@@ -187,6 +197,7 @@ fn asked<'a>(
     }
     add_argument(&mut request, &WHY, values)?;
     add_argument(&mut request, &PROGRESS, values)?;
+    add_argument(&mut request, &DIALECT, values)?;
     Ok(request)
 }
 
@@ -229,11 +240,27 @@ fn are_fiq_options(request: &Request<'_>) -> bool
     !request.fiq_source && numbers.every.is_none() && numbers.waited.is_none()
 }
 
-// Whether what is asked may be: the image of `asm` is no file that it reads, `visits` has a number or a
-// period, `respond` has all or nothing of FIQ, and no option that has no effect stands beside the certificate
-// of a verdict.
+// Whether a dialect is known, if one is named.
+fn is_known(dialect: Option<&str>) -> bool
+    ensures { result ≡ is_known (option_map (λ s. s.now) dialect.entry) }
+{
+    match dialect {
+        Some(name) => name == "objasm",
+        None => true,
+    }
+}
+
+// Whether what is asked may be: a dialect that is named is known, the image of `asm` is no file that it reads,
+// `visits` has a number or a period, `respond` has all or nothing of FIQ, and no option that has no effect
+// stands beside the certificate of a verdict.
 fn is_allowed(request: &Request<'_>) -> bool
     ensures { result ≡ is_allowed (asked_of request.now) }
+{
+    is_known(request.dialect) && is_allowed_of(request)
+}
+
+fn is_allowed_of(request: &Request<'_>) -> bool
+    ensures { result ≡ is_allowed_of request.now.command (asked_of request.now) }
 {
     match request.command {
         Command::Asm => !is_among(&request.files, request.word),
@@ -314,9 +341,18 @@ fn line_fault(error: Error) -> CommandLineFault
     }
 }
 
+// Whether a dialect is named that is not known.
+fn names_another(values: &ArgMatches<'_>) -> bool {
+    match values.get_strs("dialect") {
+        Some(names) => names.iter().any(|name| *name != "objasm"),
+        None => false,
+    }
+}
+
 // Why words that the command-line crate takes ask for nothing.
 fn unasked(matches: &ArgMatches<'_>) -> CommandLineFault {
     match matches.subcommand() {
+        Some((_, values)) if names_another(values) => CommandLineFault::UnknownDialect,
         Some(("explain", _)) => CommandLineFault::OptionBesideCertificate,
         Some(("visits", _)) => CommandLineFault::VisitsOrPeriod,
         Some(("respond", _)) => CommandLineFault::FiqOptions,
@@ -352,6 +388,7 @@ fn version<'a>(alloc: Global) -> Request<'a>
         path: false,
         html: false,
         json: false,
+        dialect: None,
         profile: None,
         files: Vec::new(alloc),
         word: "",
@@ -368,6 +405,8 @@ fn version<'a>(alloc: Global) -> Request<'a>
             within: None,
             top: None,
             width: None,
+            vectors: None,
+            seed: None,
         },
     }
 }

@@ -30,22 +30,23 @@ use Rattle.handlers.specs.declared.fault.ReportFault.TheVariants.{Memory, Device
 use Rattle.handlers.specs.declared.fault.ReportFault.TheVariants as report_fault
 use Rattle.handlers.proofs.HandlerLemmas.{handler_refusals, one_graph, refused_as}
 use Rattle.handlers.proofs.ReportLemmas.{tree_is_greatest}
+use Rattle.sources.specs.File.{File}
 
 -- ## Refusals
 
 -- what refuses a source and a statement up to the loops refuses their check, ..
-pub handler_unchecked : (source statement text : List ℕ) (profile : Profile) (e : ReportFault) → IsHandlerRefused source statement profile e → BeforeOutput (IsCheckRefused source statement text profile) e
+pub handler_unchecked : (source : File) (statement text : List ℕ) (profile : Profile) (e : ReportFault) → IsHandlerRefused source statement profile e → BeforeOutput (IsCheckRefused source statement text profile) e
 handler_unchecked source statement text profile Memory h = (λ e. cc e, tt)
 handler_unchecked source statement text profile Device h = absurd h
 handler_unchecked source statement text profile (report_fault.Cert f) h = absurd h
 handler_unchecked source statement text profile e h = (λ e. cc e, h)
 
 -- .. but not where the three texts can be checked
-pub checkable_refusal : (source statement text : List ℕ) (profile : Profile) (e : ReportFault) → IsHandlerRefused source statement profile e → IsCheckable source statement text profile → e ≡ Memory
+pub checkable_refusal : (source : File) (statement text : List ℕ) (profile : Profile) (e : ReportFault) → IsHandlerRefused source statement profile e → IsCheckable source statement text profile → e ≡ Memory
 checkable_refusal source statement text profile e h a = handler_refusals source statement profile a.stated a.flow e a.loops h
 
 -- a fault of the text
-pub cert_refusal : (source statement text : List ℕ) (profile : Profile) (st : Stated) (flow : Flow) (f : CertFault) → HasLoops source statement profile st flow
+pub cert_refusal : (source : File) (statement text : List ℕ) (profile : Profile) (st : Stated) (flow : Flow) (f : CertFault) → HasLoops source statement profile st flow
     → ((n : ℕ) → IsErrOf {T = Cert} (Err f) (cert_fault.BadLine n) → HasBadLine text n) → (IsErrOf {T = Cert} (Err f) cert_fault.Truncated → EndsEarly text) → (IsErrOf {T = Cert} (Err f) cert_fault.TrailingBytes → GoesOn text)
     → BeforeOutput (IsCheckRefused source statement text profile) (of_cert f)
 cert_refusal source statement text profile st flow cert_fault.Memory loops bad early on = (λ e. cc e, tt)
@@ -54,7 +55,7 @@ cert_refusal source statement text profile st flow cert_fault.Truncated loops ba
 cert_refusal source statement text profile st flow cert_fault.TrailingBytes loops bad early on = (λ e. cc e, record { stated = st; flow = flow; loops = loops; not_memory = λ e. cc e; holds = on refl })
 
 -- .. but not where it is a certificate
-pub readable_refusal : (source statement text : List ℕ) (profile : Profile) (f : CertFault) → ((said : Said) → CanSpell said → text ≡ cert_text said → Reads said (Err f)) → IsCheckable source statement text profile → of_cert f ≡ Memory
+pub readable_refusal : (source : File) (statement text : List ℕ) (profile : Profile) (f : CertFault) → ((said : Said) → CanSpell said → text ≡ cert_text said → Reads said (Err f)) → IsCheckable source statement text profile → of_cert f ≡ Memory
 readable_refusal source statement text profile f only a = ap of_cert (only a.said a.can_spell a.spelled)
 
 -- ## The verdict
@@ -62,7 +63,7 @@ readable_refusal source statement text profile f only a = ap of_cert (only a.sai
 pub ascends : (cert : Cert) → CanSpell (said_by cert) → Ascends cert
 ascends cert spell = record { places = spell.places_ascend; instances = spell.instances_ascend }
 
-unfoldable pub judged : (source statement text : List ℕ) (profile : Profile) (v : Verdict) → IsFound FindsVerdict source statement text profile v → IsJudged source statement text profile v
+unfoldable pub judged : (source : File) (statement text : List ℕ) (profile : Profile) (v : Verdict) → IsFound FindsVerdict source statement text profile v → IsJudged source statement text profile v
 judged source statement text profile v f = record {
   stated = f.stated;
   flow = f.flow;
@@ -77,17 +78,17 @@ judged source statement text profile v f = record {
 }
 
 -- what is judged can be checked
-pub checkable : (source statement text : List ℕ) (profile : Profile) (v : Verdict) → IsJudged source statement text profile v → IsCheckable source statement text profile
+pub checkable : (source : File) (statement text : List ℕ) (profile : Profile) (v : Verdict) → IsJudged source statement text profile v → IsCheckable source statement text profile
 checkable source statement text profile v j = record { stated = j.stated; flow = j.flow; said = said_by j.cert; loops = j.loops; can_spell = j.can_spell; spelled = j.spelled }
 
 -- the text of a report can be checked, ..
-pub report_is_checkable : (source statement text : List ℕ) (profile : Profile) → IsReport source statement profile text → IsCheckable source statement text profile
+pub report_is_checkable : (source : File) (statement text : List ℕ) (profile : Profile) → IsReport source statement profile text → IsCheckable source statement text profile
 report_is_checkable source statement text profile r =
     let a = r.bounded.accepted in
     record { stated = a.stated; flow = a.flow; said = said_of r.bounded.longest; loops = a.loops; can_spell = r.can_spell; spelled = r.spelled }
 
 -- .. and is judged Yes: both speak of the same graph, the text says one thing, and there is one verdict
-pub report_gets_yes : (source statement text : List ℕ) (profile : Profile) (v : Verdict) → IsReport source statement profile text → IsJudged source statement text profile v → v ≡ Yes
+pub report_gets_yes : (source : File) (statement text : List ℕ) (profile : Profile) (v : Verdict) → IsReport source statement profile text → IsJudged source statement text profile v → v ≡ Yes
 report_gets_yes source statement text profile v r j =
     let a = r.bounded.accepted in
     let same = one_graph source statement profile j.stated a.stated j.flow a.flow j.loops.graph a.loops.graph in

@@ -23,8 +23,9 @@ use Rattle.explain_reports.specs.FirstStarts.{AreAskedFirst}
 use Rattle.explain_reports.specs.declared.explain.TableForm.{TableForm}
 use Rattle.explain_reports.proofs.FirstLemmas.{first_begins_within}
 use Rattle.explain_reports.proofs.RunTimeLemmas.{begins_within, ends_within, some_bound}
+use Rattle.sources.specs.File.{File}
 
-module _ (source statement : List ℕ) (profile : Profile) (read : Source) (is_read : IsSource source read)
+module _ (source : File) (statement : List ℕ) (profile : Profile) (read : Source) (is_read : IsSource source read)
     (st : Stated) (flow : Flow) (tree : Tree) (loops : HasLoops source statement profile st flow) (of : IsTreeOf flow st.loops tree) where
   -- the table of a greatest walk explains its bound
   pub explained : RunLaw → IsWellFormed flow → (bursts : Bursts) (form : TableForm) (l : Longest) (starts : WordStarts) → AreAskedFirst flow st.loops form.first starts.first
@@ -51,7 +52,7 @@ module _ (source statement : List ℕ) (profile : Profile) (read : Source) (is_r
 
 -- ## With the bounds for each destination alone, or without
 
-module _ (source statement : List ℕ) (bursts : Bursts) (form : TableForm) (profile : Profile) (bound : ℕ) where
+module _ (source : File) (statement : List ℕ) (bursts : Bursts) (form : TableForm) (profile : Profile) (bound : ℕ) where
   pub full_without : (text : List ℕ) → IsExplanation source statement bursts form profile bound text → IsFullExplanation source statement bursts form false profile bound text
   full_without text explains = record { front = text; last = []; explains = explains; last_is = refl; text_is = sym (append-nil text) }
 

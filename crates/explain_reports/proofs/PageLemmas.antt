@@ -20,8 +20,9 @@ use Rattle.handlers.specs.Report.{HasLoops}
 use Rattle.sources.specs.Source.{IsSource}
 use Rattle.sources.specs.declared.read.Source.{Source}
 use Rattle.handlers.proofs.ReportLemmas.{accepted, bounded}
+use Rattle.sources.specs.File.{File}
 
-module _ (source statement : List ℕ) (profile : Profile) (read : Source) (is_read : IsSource source read)
+module _ (source : File) (statement : List ℕ) (profile : Profile) (read : Source) (is_read : IsSource source read)
     (st : Stated) (flow : Flow) (tree : Tree) (loops : HasLoops source statement profile st flow) (of : IsTreeOf flow st.loops tree) where
   -- the page of a greatest walk
   pub shown : (l : Longest) (starts : WordStarts) (extent : Extent) (text : List ℕ) → IsLongest flow tree l → ((a : ℕ) → IsLatestStart flow tree a (starts.latest a))

@@ -8,8 +8,9 @@ use Rattle.cert_check.proofs.YesLemmas.{yes_is_greatest}
 use Rattle.explain_reports.specs.Found.{FindsRow, IsFound}
 use Rattle.explain_reports.specs.Verdict.{IsExplained}
 use Rattle.explain_reports.proofs.CheckLemmas.{judged}
+use Rattle.sources.specs.File.{File}
 
-pub explained : (source statement text : List ℕ) (profile : Profile) (row : Option FailingRow) → IsFound FindsRow source statement text profile row → IsExplained source statement text profile row
+pub explained : (source : File) (statement text : List ℕ) (profile : Profile) (row : Option FailingRow) → IsFound FindsRow source statement text profile row → IsExplained source statement text profile row
 unfolding judged
 explained source statement text profile row f = record {
   judged = judged source statement text profile (verdict_of row) (record {

@@ -20,6 +20,7 @@ use Rattle.handlers.specs.Answers.{Answers}
 use Rattle.handlers.specs.Report.{HasLoops, IsHandlerRefused}
 use Rattle.handlers.specs.declared.fault.ReportFault.{ReportFault}
 use Rattle.handlers.specs.declared.fault.ReportFault.TheVariants as report_fault
+use Rattle.sources.specs.File.{File}
 
 -- ## The text
 
@@ -47,7 +48,8 @@ verdict_line (No objection) = objection_line objection
 
 -- The text is a certificate, no refusal up to the loops holds of the source and the statement, and this is
 -- the verdict on it by their graph. Yes, whoever wrote it, means that its bound is the greatest cost.
-pub record IsJudged (source statement text : List ℕ) (profile : Profile) (verdict : Verdict) : Type 0 where
+pub record IsJudged (source : File) (statement text : List ℕ) (profile : Profile)
+    (verdict : Verdict) : Type 0 where
   pub stated : Stated
   pub flow : Flow
   pub tree : Tree
@@ -60,7 +62,7 @@ pub record IsJudged (source statement text : List ℕ) (profile : Profile) (verd
   pub greatest : verdict ≡ Yes → IsGreatestCost flow stated.loops cert.bound
 
 -- the verdict's line, and whether it is Yes
-pub record IsAnswer (source statement text : List ℕ) (profile : Profile) (answer : Bool)
+pub record IsAnswer (source : File) (statement text : List ℕ) (profile : Profile) (answer : Bool)
     (line : List ℕ) : Type 0 where
   pub verdict : Verdict
   pub judged : IsJudged source statement text profile verdict
@@ -68,7 +70,7 @@ pub record IsAnswer (source statement text : List ℕ) (profile : Profile) (answ
   pub line_is : line ≡ verdict_line verdict
 
 -- no refusal up to the loops holds, and the text is a certificate
-pub record IsCheckable (source statement text : List ℕ) (profile : Profile) : Type 0 where
+pub record IsCheckable (source : File) (statement text : List ℕ) (profile : Profile) : Type 0 where
   pub stated : Stated
   pub flow : Flow
   pub said : Said
@@ -86,7 +88,7 @@ IsCertFault text cert_fault.Truncated = EndsEarly text
 IsCertFault text cert_fault.TrailingBytes = GoesOn text
 
 -- a fault of the text, of a graph and its loops
-pub record IsCertRefused (source statement text : List ℕ) (profile : Profile)
+pub record IsCertRefused (source : File) (statement text : List ℕ) (profile : Profile)
     (fault : CertFault) : Type 0 where
   pub stated : Stated
   pub flow : Flow
@@ -95,7 +97,7 @@ pub record IsCertRefused (source statement text : List ℕ) (profile : Profile)
   pub holds : IsCertFault text fault
 
 -- when each refusal is answered: the first in the order of the work; an output fails whatever the texts
-abbrev pub IsCheckRefused : List ℕ → List ℕ → List ℕ → Profile → ReportFault → Type 0
+abbrev pub IsCheckRefused : File → List ℕ → List ℕ → Profile → ReportFault → Type 0
 IsCheckRefused source statement text profile (report_fault.Cert fault) =
     IsCertRefused source statement text profile fault
 IsCheckRefused source statement text profile report_fault.Device = Unit {0}
@@ -104,7 +106,7 @@ IsCheckRefused source statement text profile fault = IsHandlerRefused source sta
 -- ## The call
 
 -- the answer to a source, a statement and a certificate's text: the verdict's line
-abbrev pub Checks : {O : Type 0} → (O → Option (List ℕ)) → (O → ℕ) → List ℕ → List ℕ → List ℕ → Profile → O
+abbrev pub Checks : {O : Type 0} → (O → Option (List ℕ)) → (O → ℕ) → File → List ℕ → List ℕ → Profile → O
     → O → Result Bool ReportFault → Type 0
 Checks taken failures source statement text profile old new result =
     Answers taken failures (IsAnswer source statement text profile)

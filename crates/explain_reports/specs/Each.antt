@@ -17,6 +17,7 @@ use Rattle.handlers.specs.Alone.{IsAnswerOf}
 use Rattle.handlers.specs.FaultNames.{fault_name}
 use Rattle.handlers.specs.Report.{HasGraph}
 use Rattle.handlers.specs.declared.fault.ReportFault.{ReportFault}
+use Rattle.sources.specs.File.{File}
 
 -- ## Rows
 
@@ -70,7 +71,7 @@ module _ (read : Source) (stated : Stated) (profile : Profile) where
   AreEachLines text = (rows : List ℕ) × AreEachRows rows × (text ≡ section each_heading rows)
 
 -- the section of a source and a statement
-pub record IsEachText (source statement : List ℕ) (profile : Profile) (text : List ℕ) : Type 0 where
+pub record IsEachText (source : File) (statement : List ℕ) (profile : Profile) (text : List ℕ) : Type 0 where
   pub read : Source
   pub stated : Stated
   pub flow : Flow
@@ -79,6 +80,6 @@ pub record IsEachText (source statement : List ℕ) (profile : Profile) (text : 
   pub lines_are : AreEachLines read stated profile text
 
 -- the same where it is asked for, else nothing
-abbrev pub IsAskedEach : Bool → (source statement : List ℕ) → Profile → List ℕ → Type 0
+abbrev pub IsAskedEach : Bool → (source : File) (statement : List ℕ) → Profile → List ℕ → Type 0
 IsAskedEach true source statement profile text = IsEachText source statement profile text
 IsAskedEach false source statement profile text = text ≡ []

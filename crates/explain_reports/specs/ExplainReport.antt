@@ -29,6 +29,7 @@ use Rattle.explain_reports.specs.RunTimes.{BeginsWithin, EndsWithin, FirstBegins
 use Rattle.explain_reports.specs.declared.explain.TableForm.{TableForm}
 use Rattle.handlers.specs.Report.{IsAccepted, IsBounded, IsRefused}
 use Rattle.handlers.specs.declared.fault.ReportFault.{ReportFault}
+use Rattle.sources.specs.File.{File}
 
 -- ## The explanation
 
@@ -80,7 +81,7 @@ IsTotal source flow longest =
 -- what is taken for granted of the words that are reached; what each rule for a base register covers; the
 -- entries of the statement without effect; the longest step and how long interrupts are masked; and what
 -- better entries would save
-pub record IsExplanation (source statement : List ℕ) (bursts : Bursts) (form : TableForm)
+pub record IsExplanation (source : File) (statement : List ℕ) (bursts : Bursts) (form : TableForm)
     (profile : Profile) (bound : ℕ) (text : List ℕ) : Type 0 where
   pub bounded : IsBounded source statement profile
   pub starts : WordStarts
@@ -102,8 +103,8 @@ pub record IsExplanation (source statement : List ℕ) (bursts : Bursts) (form :
   pub total : IsTotal read bounded.accepted.flow bounded.longest
 
 -- the explanation, and after it the bounds for each destination of a target alone, if they are asked for
-pub record IsFullExplanation (source statement : List ℕ) (bursts : Bursts) (form : TableForm) (each : Bool)
-    (profile : Profile) (bound : ℕ) (text : List ℕ) : Type 0 where
+pub record IsFullExplanation (source : File) (statement : List ℕ) (bursts : Bursts) (form : TableForm)
+    (each : Bool) (profile : Profile) (bound : ℕ) (text : List ℕ) : Type 0 where
   pub front : List ℕ
   pub last : List ℕ
   pub explains : IsExplanation source statement bursts form profile bound front
@@ -116,14 +117,14 @@ is_enough None bound = true
 is_enough (Some most) bound = nat_le bound most
 
 -- with the answer whether the bound is enough
-pub record IsExplainReport (source statement : List ℕ) (at_most : Option ℕ) (bursts : Bursts)
+pub record IsExplainReport (source : File) (statement : List ℕ) (at_most : Option ℕ) (bursts : Bursts)
     (form : TableForm) (each : Bool) (profile : Profile) (answer : Bool) (text : List ℕ) : Type 0 where
   pub bound : ℕ
   pub explains : IsFullExplanation source statement bursts form each profile bound text
   pub answer_is : answer ≡ is_enough at_most bound
 
 -- the answer to a source and a statement: their explanation
-abbrev pub Explains : {O : Type 0} → (O → Option (List ℕ)) → (O → ℕ) → List ℕ → List ℕ → Option ℕ → Bursts
+abbrev pub Explains : {O : Type 0} → (O → Option (List ℕ)) → (O → ℕ) → File → List ℕ → Option ℕ → Bursts
     → TableForm → (each : Bool) → Profile → O → O → Result Bool ReportFault → Type 0
 Explains taken failures source statement at_most bursts form each profile old new result =
     Answers taken failures (IsExplainReport source statement at_most bursts form each profile)

@@ -16,6 +16,7 @@ use Rattle.cert_check.specs.declared.failing.FailingRow.{FailingRow}
 use Rattle.cert_check.specs.declared.verdict.Verdict.{Verdict}
 use Rattle.cert_check.specs.declared.verdict.Verdict.TheVariants.{Yes}
 use Rattle.handlers.specs.Report.{HasLoops}
+use Rattle.sources.specs.File.{File}
 
 -- a finding on a graph, the tree of its loops and a certificate
 abbrev pub Finds : Type 0 → Type 1
@@ -32,7 +33,7 @@ abbrev pub FindsRow : Finds (Option FailingRow)
 FindsRow flow tree cert row = IsFirstFailing flow tree cert objections row
 
 -- the finding on the certificate that the text spells, by a source and a statement that have a tree of loops
-pub record IsFound {T : Type 0} (Says : Finds T) (source statement text : List ℕ) (profile : Profile)
+pub record IsFound {T : Type 0} (Says : Finds T) (source : File) (statement text : List ℕ) (profile : Profile)
     (found : T) : Type 0 where
   pub stated : Stated
   pub flow : Flow

@@ -9,12 +9,13 @@ use Rattle.text_graph.specs.declared.extent.Extent.{Extent}
 use Rattle.handlers.specs.Answers.{Answers}
 use Rattle.handlers.specs.Report.{IsAccepted, IsBounded, IsRefused}
 use Rattle.handlers.specs.declared.fault.ReportFault.{ReportFault}
+use Rattle.sources.specs.File.{File}
 
 -- of an accepted source and statement: the drawing of their graph with a greatest walk, or of this alone. The
 -- nodes of all of it hold each place once, with the line or the word of the source that it is, its edges lead
 -- to nodes, and the ticks of all nodes are the bound.
-pub record IsGraphReport (source statement : List ℕ) (extent : Extent) (profile : Profile) (text : List ℕ)
-    : Type 0 where
+pub record IsGraphReport (source : File) (statement : List ℕ) (extent : Extent) (profile : Profile)
+    (text : List ℕ) : Type 0 where
   pub bounded : IsBounded source statement profile
   pub read : Source
   pub is_read : IsSource source read
@@ -24,7 +25,7 @@ pub record IsGraphReport (source statement : List ℕ) (extent : Extent) (profil
   pub total : all_ticks bounded.accepted.flow bounded.tree drawn.counts ≡ bounded.longest.bound
 
 -- the answer to a source and a statement: the drawing of their graph
-abbrev pub Draws : {O T : Type 0} → (O → Option (List ℕ)) → (O → ℕ) → List ℕ → List ℕ → Extent → Profile → O
+abbrev pub Draws : {O T : Type 0} → (O → Option (List ℕ)) → (O → ℕ) → File → List ℕ → Extent → Profile → O
     → O → Result T ReportFault → Type 0
 Draws taken failures source statement extent profile old new result =
     Answers taken failures (λ _ text. IsGraphReport source statement extent profile text)

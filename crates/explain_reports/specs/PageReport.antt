@@ -12,11 +12,12 @@ use Rattle.explain_reports.specs.ExplainReport.{IsTotal}
 use Rattle.handlers.specs.Answers.{Answers}
 use Rattle.handlers.specs.Report.{IsAccepted, IsBounded, IsRefused}
 use Rattle.handlers.specs.declared.fault.ReportFault.{ReportFault}
+use Rattle.sources.specs.File.{File}
 
 -- of an accepted source and statement: the page of a greatest walk, whose cost is the bound, as the ticks of
 -- all rows are, with when each word begins at the latest on any walk; all rows, or those of the walk alone
-pub record IsPageReport (source statement : List ℕ) (extent : Extent) (profile : Profile) (text : List ℕ)
-    : Type 0 where
+pub record IsPageReport (source : File) (statement : List ℕ) (extent : Extent) (profile : Profile)
+    (text : List ℕ) : Type 0 where
   pub bounded : IsBounded source statement profile
   pub starts : WordStarts
   pub latest_is : (a : ℕ) → IsLatestStart bounded.accepted.flow bounded.tree a (starts.latest a)
@@ -27,7 +28,7 @@ pub record IsPageReport (source statement : List ℕ) (extent : Extent) (profile
   pub total : IsTotal read bounded.accepted.flow bounded.longest
 
 -- the answer to a source and a statement: their page
-abbrev pub ShowsPage : {O T : Type 0} → (O → Option (List ℕ)) → (O → ℕ) → List ℕ → List ℕ → Extent → Profile
+abbrev pub ShowsPage : {O T : Type 0} → (O → Option (List ℕ)) → (O → ℕ) → File → List ℕ → Extent → Profile
     → O → O → Result T ReportFault → Type 0
 ShowsPage taken failures source statement extent profile old new result =
     Answers taken failures (λ _ text. IsPageReport source statement extent profile text)

@@ -2,11 +2,13 @@ ghost use Rattle.std.specs.Prelude.{◌≡◌, ◌↔◌, ◌∷◌, [], IfErr, 
 ghost use Rattle.handlers.specs.Priced.{Priced, given};
 ghost use Rattle.handlers.specs.Refusal.{CarriesReadBy, fault_only};
 ghost use Rattle.explain_reports.specs.Check.{Checks, objection_line, verdict_line};
+ghost use Rattle.sources.specs.File.{file_of};
 
 use crate::finding::found_of;
 use cert_check::{Objection, Verdict};
 use handlers::{Refusal, ReportFault, fault_only, print_or_refuse, profile_of};
 use outputs::Output;
+use sources::SourceFile;
 use std::alloc::Global;
 
 fn objection_line(objection: Objection) -> &'static [u8]
@@ -48,7 +50,7 @@ fn is_yes(verdict: Verdict) -> bool
 /// The bytes of a source, a statement and a certificate.
 #[derive(Clone, Copy)]
 pub struct CheckInputs<'a> {
-    pub source: &'a [u8],
+    pub source: SourceFile<'a>,
     pub statement: &'a [u8],
     pub cert: &'a [u8],
 }
@@ -67,14 +69,14 @@ pub struct CheckInputs<'a> {
 /// failed. After any but `Device` nothing was written.
 pub fn check_report<O: Output>(
     alloc: Global,
-    source: &[u8],
+    source: SourceFile<'_>,
     statement: &[u8],
     cert: &[u8],
     profile: Option<&[u8]>,
     out: &mut O,
 ) -> Result<bool, ReportFault>
     ensures { Priced (given profile.entry)
-        (λ p. Checks O.taken O.failures source.now statement.now cert.now p out.old out.new
+        (λ p. Checks O.taken O.failures (file_of source.entry) statement.now cert.now p out.old out.new
         result) out.old out.new result }
 {
     let inputs = CheckInputs {
@@ -97,9 +99,9 @@ pub fn print_check<'a, O: Output>(
     out: &mut O,
 ) -> Result<bool, Refusal<'a>>
     ensures answers { Priced (given profile.entry)
-        (λ p. Checks O.taken O.failures inputs.entry.source.now inputs.entry.statement.now
+        (λ p. Checks O.taken O.failures (file_of inputs.entry.source) inputs.entry.statement.now
         inputs.entry.cert.now p out.old out.new (fault_only result)) out.old out.new (fault_only result) }
-    ensures carries { IfErr result (CarriesReadBy (given profile.entry) inputs.entry.source.now
+    ensures carries { IfErr result (CarriesReadBy (given profile.entry) (file_of inputs.entry.source)
         (inputs.entry.statement.now ∷ [])) }
 {
     let profile = profile_of(alloc, profile)?;

@@ -17,6 +17,7 @@ ghost use Rattle.handlers.specs.Refusal.{Carries, CarriesRead, CarriesReadBy, Co
 ghost use Rattle.handlers.specs.Refusal.{stop_fault};
 ghost use Rattle.handlers.specs.Report.{BeforeOutput, HasGraph, HasLoops, IsRefused};
 ghost use Rattle.sources.specs.Source.{IsSource, Says};
+ghost use Rattle.sources.specs.File.{File, file_of};
 
 use crate::each::each_lines;
 use crate::first_starts::asked_first;
@@ -29,7 +30,7 @@ use handlers::{
 };
 use longest_walk::worst_starts;
 use outputs::Output;
-use sources::Source;
+use sources::{Source, SourceFile};
 use statement::Statement;
 use std::alloc::{AllocError, Global};
 use std::collections::BTreeMap;
@@ -58,7 +59,7 @@ pub struct TableForm {
 #[derive(Clone, Copy)]
 pub struct Explained<'a> {
     /// The bytes of its source, a text or an image.
-    pub source: &'a [u8],
+    pub source: SourceFile<'a>,
     /// The text of the statement on it.
     pub statement: &'a [u8],
     /// The most ticks that its bound, without bursts, may have to be enough; for `None` any bound is.
@@ -87,7 +88,6 @@ struct Means<'p, 'f> {
 #[derive(Clone, Copy)]
 struct BurstWalk<'w, 'p, 's> {
     timed: TimedWalk<'w>,
-    counts: &'w [u64],
     lines: &'w BTreeMap<u32, SourceLine<'s>>,
     rows: RowForm,
     profile: &'p Profile,
@@ -120,7 +120,8 @@ fn text_of(
     requires image { handler.now.image.now ≡ read.now.image }
     requires tree { HasItsTree handler.now }
     requires lines { AreLines read.now walk.lines.now }
-    requires counts { AreCounts handler.now.graph.edges (unfolded walk.timed.longest.now.walk) walk.counts.now }
+    requires counts { AreCounts handler.now.graph.edges (unfolded walk.timed.longest.now.walk)
+        walk.timed.counts.now }
     ensures { IfOk result
         (λ text. IsTextOf read.now handler.now.statement handler.now.graph walk.entry.timed.longest.now
         (starts_of handler.now.graph.places walk.entry.timed.starts.now (first_of walk.entry.timed.first))
@@ -130,7 +131,7 @@ fn text_of(
     let counted = CountedWalk {
         graph: &handler.graph,
         longest,
-        counts: walk.counts,
+        counts: walk.timed.counts,
     };
     let mut text = cost_table(alloc, read, handler, walk.timed, walk.rows)?;
     let mut rest = burst_lines(alloc, walk.profile, longest.bound, walk.bursts)?;
@@ -165,11 +166,11 @@ fn explanation_of(
     requires tree { HasItsTree handler.now }
     requires first { AreAskedFirst handler.now.graph handler.now.statement.loops means.form.first
         (first_of means.first) }
-    ensures explains { (source statement : List ℕ) → IsSource source read.now
+    ensures explains { (source : File) (statement : List ℕ) → IsSource source read.now
         → HasLoops source statement means.entry.profile.now handler.now.statement handler.now.graph
         → IfOk result (λ e. IsExplanation source statement means.entry.bursts means.entry.form
         means.entry.profile.now e.bound e.text.items) }
-    ensures fault { (source statement : List ℕ)
+    ensures fault { (source : File) (statement : List ℕ)
         → HasLoops source statement means.entry.profile.now handler.now.statement handler.now.graph
         → IfErr result (BeforeOutput (IsRefused source statement means.entry.profile.now)) }
     ensures alone { IfErr result ComesAlone }
@@ -187,9 +188,9 @@ fn explanation_of(
         timed: TimedWalk {
             longest: &found,
             starts: &starts,
+            counts: &counts,
             first: means.first,
         },
-        counts: &counts,
         lines: &lines,
         rows: means.form.rows,
         profile: means.profile,
@@ -212,11 +213,11 @@ fn asked_explanation(
 ) -> Result<Explanation, ReportFault>
     requires image { handler.now.image.now ≡ read.now.image }
     requires tree { HasItsTree handler.now }
-    ensures explains { (source statement : List ℕ) → IsSource source read.now
+    ensures explains { (source : File) (statement : List ℕ) → IsSource source read.now
         → HasLoops source statement profile.now handler.now.statement handler.now.graph
         → IfOk result (λ e. IsExplanation source statement explained.entry.bursts explained.entry.form
         profile.now e.bound e.text.items) }
-    ensures fault { (source statement : List ℕ)
+    ensures fault { (source : File) (statement : List ℕ)
         → HasLoops source statement profile.now handler.now.statement handler.now.graph
         → IfErr result (BeforeOutput (IsRefused source statement profile.now)) }
     ensures alone { IfErr result ComesAlone }
@@ -240,7 +241,7 @@ fn with_each(
     profile: &Profile,
     found: Explanation,
 ) -> Result<Explanation, AllocError>
-    ensures { (source text : List ℕ) (flow : Flow) (bursts : Bursts) (form : TableForm)
+    ensures { (source : File) (text : List ℕ) (flow : Flow) (bursts : Bursts) (form : TableForm)
         → IsSource source read.now → HasGraph source text profile.now statement.old flow
         → IsExplanation source text bursts form profile.now found.bound found.text.items
         → IfOk result
@@ -262,11 +263,11 @@ fn full_explanation(
 ) -> Result<Explanation, ReportFault>
     requires image { handler.now.image.now ≡ read.now.image }
     requires tree { HasItsTree handler.now }
-    ensures explains { (source statement : List ℕ) → IsSource source read.now
+    ensures explains { (source : File) (statement : List ℕ) → IsSource source read.now
         → HasLoops source statement profile.now handler.old.statement handler.old.graph
         → IfOk result (λ e. IsFullExplanation source statement explained.entry.bursts explained.entry.form
         explained.entry.each profile.now e.bound e.text.items) }
-    ensures fault { (source statement : List ℕ)
+    ensures fault { (source : File) (statement : List ℕ)
         → HasLoops source statement profile.now handler.old.statement handler.old.graph
         → IfErr result (BeforeOutput (IsRefused source statement profile.now)) }
     ensures alone { IfErr result ComesAlone }
@@ -285,10 +286,10 @@ fn source_explanation<'a>(
     explained: Explained<'a>,
     profile: &Profile,
 ) -> Result<Explanation, Stop<'a>>
-    ensures explains { (source : List ℕ) → IsSource source said.now
+    ensures explains { (source : File) → IsSource source said.now
         → IfOk result (λ e. IsFullExplanation source explained.entry.statement.now explained.entry.bursts
         explained.entry.form explained.entry.each profile.now e.bound e.text.items) }
-    ensures fault { (source : List ℕ) → Says source said.now
+    ensures fault { (source : File) → Says source said.now
         → IfErr result (λ s. BeforeOutput (IsRefused source explained.entry.statement.now profile.now)
         (stop_fault s)) }
     ensures carries { IfErr result (Carries said.now explained.entry.statement.now profile.now) }
@@ -304,12 +305,13 @@ fn read_explanation<'a>(
     profile: &Profile,
 ) -> Result<Explanation, Refusal<'a>>
     ensures explains { IfOk result
-        (λ e. IsFullExplanation explained.entry.source.now explained.entry.statement.now
+        (λ e. IsFullExplanation (file_of explained.entry.source) explained.entry.statement.now
         explained.entry.bursts explained.entry.form explained.entry.each profile.now e.bound e.text.items) }
     ensures fault { IfErr (fault_only result)
-        (BeforeOutput (IsRefused explained.entry.source.now explained.entry.statement.now profile.now)) }
+        (BeforeOutput (IsRefused (file_of explained.entry.source) explained.entry.statement.now
+        profile.now)) }
     ensures carries { IfErr result
-        (CarriesRead explained.entry.source.now (explained.entry.statement.now ∷ []) profile.now) }
+        (CarriesRead (file_of explained.entry.source) (explained.entry.statement.now ∷ []) profile.now) }
 {
     let said = read_source(alloc, explained.source)?;
     let found = source_explanation(alloc, &said, explained, profile);
@@ -339,10 +341,10 @@ pub fn explain_report<'a, O: Output>(
     out: &mut O,
 ) -> Result<bool, Refusal<'a>>
     ensures answers { Priced (given profile.entry)
-        (λ p. Explains O.taken O.failures explained.entry.source.now explained.entry.statement.now
+        (λ p. Explains O.taken O.failures (file_of explained.entry.source) explained.entry.statement.now
         explained.entry.at_most explained.entry.bursts explained.entry.form explained.entry.each p out.old
         out.new (fault_only result)) out.old out.new (fault_only result) }
-    ensures carries { IfErr result (CarriesReadBy (given profile.entry) explained.entry.source.now
+    ensures carries { IfErr result (CarriesReadBy (given profile.entry) (file_of explained.entry.source)
         (explained.entry.statement.now ∷ [])) }
 {
     let profile = profile_of(alloc, profile)?;

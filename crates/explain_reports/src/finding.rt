@@ -10,6 +10,7 @@ ghost use Rattle.explain_reports.specs.Found.{Finds, FindsRow, FindsVerdict, IsF
 ghost use Rattle.handlers.specs.Refusal.{ComesAlone, Carries, CarriesRead, stop_fault, fault_only};
 ghost use Rattle.handlers.specs.Report.{BeforeOutput, OfHandler};
 ghost use Rattle.sources.specs.Source.{Says};
+ghost use Rattle.sources.specs.File.{File, file_of};
 
 use crate::check::CheckInputs;
 use bus_ticks::Profile;
@@ -67,7 +68,7 @@ fn found_on<F: Finding>(alloc: Global, handler: &Handler<'_>, cert: &[u8]) -> Re
     ensures fault { OfHandler handler.now
         (λ source statement profile. IfErr result
         (BeforeOutput (IsCheckRefused source statement cert.now profile))) }
-    ensures only { (source statement : List ℕ) (profile : Profile)
+    ensures only { (source : File) (statement : List ℕ) (profile : Profile)
         → IsCheckable source statement cert.now profile → IfErr result (λ e. e ≡ ReportFault.Memory) }
     ensures alone { IfErr result ComesAlone }
 {
@@ -84,12 +85,12 @@ fn source_found<'a, F: Finding>(
     inputs: CheckInputs<'a>,
     profile: &Profile,
 ) -> Result<F, Stop<'a>>
-    ensures found { (source : List ℕ) → Says source said.now
+    ensures found { (source : File) → Says source said.now
         → IfOk result (IsFound F.says source inputs.entry.statement.now inputs.entry.cert.now profile.now) }
-    ensures fault { (source : List ℕ) → Says source said.now
+    ensures fault { (source : File) → Says source said.now
         → IfErr result (λ s. BeforeOutput (IsCheckRefused source inputs.entry.statement.now
         inputs.entry.cert.now profile.now) (stop_fault s)) }
-    ensures only { (source : List ℕ) → Says source said.now
+    ensures only { (source : File) → Says source said.now
         → IsCheckable source inputs.entry.statement.now inputs.entry.cert.now profile.now
         → IfErr result (λ s. stop_fault s ≡ ReportFault.Memory) }
     ensures carries { IfErr result (Carries said.now inputs.entry.statement.now profile.now) }
@@ -105,15 +106,15 @@ pub(crate) fn found_of<'a, F: Finding>(
     profile: &Profile,
 ) -> Result<F, Refusal<'a>>
     ensures found { IfOk result
-        (IsFound F.says inputs.entry.source.now inputs.entry.statement.now inputs.entry.cert.now
+        (IsFound F.says (file_of inputs.entry.source) inputs.entry.statement.now inputs.entry.cert.now
         profile.now) }
     ensures fault { IfErr (fault_only result)
-        (BeforeOutput (IsCheckRefused inputs.entry.source.now inputs.entry.statement.now inputs.entry.cert.now
-        profile.now)) }
-    ensures only { IsCheckable inputs.entry.source.now inputs.entry.statement.now inputs.entry.cert.now
+        (BeforeOutput (IsCheckRefused (file_of inputs.entry.source) inputs.entry.statement.now
+        inputs.entry.cert.now profile.now)) }
+    ensures only { IsCheckable (file_of inputs.entry.source) inputs.entry.statement.now inputs.entry.cert.now
         profile.now → IfErr (fault_only result) (λ e. e ≡ ReportFault.Memory) }
     ensures carries { IfErr result
-        (CarriesRead inputs.entry.source.now (inputs.entry.statement.now ∷ []) profile.now) }
+        (CarriesRead (file_of inputs.entry.source) (inputs.entry.statement.now ∷ []) profile.now) }
 {
     let said = read_source(alloc, inputs.source)?;
     let found = source_found(alloc, &said, inputs, profile);

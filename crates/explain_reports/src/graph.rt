@@ -9,6 +9,7 @@ ghost use Rattle.handlers.specs.Refusal.{Carries, CarriesRead, CarriesReadBy, Co
 ghost use Rattle.handlers.specs.Refusal.{stop_fault};
 ghost use Rattle.handlers.specs.Report.{BeforeOutput, HasLoops, IsRefused, OfHandler};
 ghost use Rattle.sources.specs.Source.{IsSource, Says};
+ghost use Rattle.sources.specs.File.{File, file_of};
 
 use bus_ticks::Profile;
 use control_flow::graphs_are_well_formed;
@@ -17,7 +18,7 @@ use handlers::{
     read_source, with_source,
 };
 use outputs::Output;
-use sources::Source;
+use sources::{Source, SourceFile};
 use std::alloc::Global;
 use text_graph::{Extent, drawing, node_ticks_are_the_bound, places_are_drawn_once};
 
@@ -25,7 +26,7 @@ use text_graph::{Extent, drawing, node_ticks_are_the_bound, places_are_drawn_onc
 #[derive(Clone, Copy)]
 pub struct DrawnHandler<'a> {
     /// The bytes of its source, a text or an image.
-    pub source: &'a [u8],
+    pub source: SourceFile<'a>,
     /// The text of the statement on it.
     pub statement: &'a [u8],
     /// How much of its flow graph.
@@ -40,7 +41,7 @@ fn drawing_of(
     extent: Extent,
 ) -> Result<Vec<u8>, ReportFault>
     requires { HasItsTree handler.now }
-    ensures draws { (source statement : List ℕ) (profile : Profile)
+    ensures draws { (source : File) (statement : List ℕ) (profile : Profile)
         → IsSource source read.now
         → HasLoops source statement profile handler.now.statement handler.now.graph
         → IfOk result (λ text. IsGraphReport source statement extent profile text.items) }
@@ -64,9 +65,9 @@ fn source_drawing<'a>(
     extent: Extent,
     profile: &Profile,
 ) -> Result<Vec<u8>, Stop<'a>>
-    ensures draws { (source : List ℕ) → IsSource source said.now
+    ensures draws { (source : File) → IsSource source said.now
         → IfOk result (λ text. IsGraphReport source statement.now extent profile.now text.items) }
-    ensures fault { (source : List ℕ) → Says source said.now
+    ensures fault { (source : File) → Says source said.now
         → IfErr result (λ s. BeforeOutput (IsRefused source statement.now profile.now) (stop_fault s)) }
     ensures carries { IfErr result (Carries said.now statement.now profile.now) }
 {
@@ -81,12 +82,12 @@ fn read_drawing<'a>(
     profile: &Profile,
 ) -> Result<Vec<u8>, Refusal<'a>>
     ensures draws { IfOk result
-        (λ text. IsGraphReport drawn.entry.source.now drawn.entry.statement.now drawn.entry.extent
+        (λ text. IsGraphReport (file_of drawn.entry.source) drawn.entry.statement.now drawn.entry.extent
         profile.now text.items) }
     ensures fault { IfErr (fault_only result)
-        (BeforeOutput (IsRefused drawn.entry.source.now drawn.entry.statement.now profile.now)) }
+        (BeforeOutput (IsRefused (file_of drawn.entry.source) drawn.entry.statement.now profile.now)) }
     ensures carries { IfErr result
-        (CarriesRead drawn.entry.source.now (drawn.entry.statement.now ∷ []) profile.now) }
+        (CarriesRead (file_of drawn.entry.source) (drawn.entry.statement.now ∷ []) profile.now) }
 {
     let said = read_source(alloc, drawn.source)?;
     let text = source_drawing(alloc, &said, drawn.statement, drawn.extent, profile);
@@ -108,10 +109,10 @@ pub fn graph_report<'a, O: Output>(
     out: &mut O,
 ) -> Result<(), Refusal<'a>>
     ensures answers { Priced (given profile.entry)
-        (λ p. Draws O.taken O.failures drawn.entry.source.now drawn.entry.statement.now drawn.entry.extent p
-        out.old out.new (fault_only result)) out.old out.new (fault_only result) }
+        (λ p. Draws O.taken O.failures (file_of drawn.entry.source) drawn.entry.statement.now
+        drawn.entry.extent p out.old out.new (fault_only result)) out.old out.new (fault_only result) }
     ensures carries { IfErr result
-        (CarriesReadBy (given profile.entry) drawn.entry.source.now (drawn.entry.statement.now ∷ [])) }
+        (CarriesReadBy (given profile.entry) (file_of drawn.entry.source) (drawn.entry.statement.now ∷ [])) }
 {
     let profile = profile_of(alloc, profile)?;
     let text = read_drawing(alloc, drawn, &profile)?;

@@ -9,6 +9,7 @@ ghost use Rattle.handlers.specs.Refusal.{Carries, CarriesRead, CarriesReadBy, Co
 ghost use Rattle.handlers.specs.Refusal.{stop_fault};
 ghost use Rattle.handlers.specs.Report.{BeforeOutput, HasLoops, IsRefused};
 ghost use Rattle.sources.specs.Source.{IsSource, Says};
+ghost use Rattle.sources.specs.File.{File, file_of};
 
 use crate::graph::DrawnHandler;
 use bus_ticks::Profile;
@@ -26,6 +27,7 @@ use text_explained::{
 };
 use text_graph::Extent;
 use text_page::page;
+use walk_counts::edge_counts;
 
 // The page on a handler that was read, with its source.
 fn page_of(
@@ -36,11 +38,11 @@ fn page_of(
 ) -> Result<Vec<u8>, ReportFault>
     requires image { handler.now.image.now ≡ read.now.image }
     requires tree { HasItsTree handler.now }
-    ensures shows { (source statement : List ℕ) (profile : Profile)
+    ensures shows { (source : File) (statement : List ℕ) (profile : Profile)
         → IsSource source read.now
         → HasLoops source statement profile handler.now.statement handler.now.graph
         → IfOk result (λ text. IsPageReport source statement extent profile text.items) }
-    ensures fault { (source statement : List ℕ) (profile : Profile)
+    ensures fault { (source : File) (statement : List ℕ) (profile : Profile)
         → HasLoops source statement profile handler.now.statement handler.now.graph
         → IfErr result (BeforeOutput (IsRefused source statement profile)) }
     ensures alone { IfErr result ComesAlone }
@@ -51,9 +53,11 @@ fn page_of(
     places_are_listed_once();
     totals_are_the_bound();
     latest_starts_are_of_walks();
+    let counts = edge_counts(alloc, &handler.graph, &found.walk)?;
     let walk = TimedWalk {
         longest: &found,
         starts: &starts,
+        counts: &counts,
         first: None,
     };
     let text = page(alloc, read, handler, walk, extent)?;
@@ -68,9 +72,9 @@ fn source_page<'a>(
     extent: Extent,
     profile: &Profile,
 ) -> Result<Vec<u8>, Stop<'a>>
-    ensures shows { (source : List ℕ) → IsSource source said.now
+    ensures shows { (source : File) → IsSource source said.now
         → IfOk result (λ text. IsPageReport source statement.now extent profile.now text.items) }
-    ensures fault { (source : List ℕ) → Says source said.now
+    ensures fault { (source : File) → Says source said.now
         → IfErr result (λ s. BeforeOutput (IsRefused source statement.now profile.now) (stop_fault s)) }
     ensures carries { IfErr result (Carries said.now statement.now profile.now) }
 {
@@ -85,12 +89,12 @@ fn read_page<'a>(
     profile: &Profile,
 ) -> Result<Vec<u8>, Refusal<'a>>
     ensures shows { IfOk result
-        (λ text. IsPageReport drawn.entry.source.now drawn.entry.statement.now drawn.entry.extent
+        (λ text. IsPageReport (file_of drawn.entry.source) drawn.entry.statement.now drawn.entry.extent
         profile.now text.items) }
     ensures fault { IfErr (fault_only result)
-        (BeforeOutput (IsRefused drawn.entry.source.now drawn.entry.statement.now profile.now)) }
+        (BeforeOutput (IsRefused (file_of drawn.entry.source) drawn.entry.statement.now profile.now)) }
     ensures carries { IfErr result
-        (CarriesRead drawn.entry.source.now (drawn.entry.statement.now ∷ []) profile.now) }
+        (CarriesRead (file_of drawn.entry.source) (drawn.entry.statement.now ∷ []) profile.now) }
 {
     let said = read_source(alloc, drawn.source)?;
     let text = source_page(alloc, &said, drawn.statement, drawn.extent, profile);
@@ -112,10 +116,10 @@ pub fn page_report<'a, O: Output>(
     out: &mut O,
 ) -> Result<(), Refusal<'a>>
     ensures answers { Priced (given profile.entry)
-        (λ p. ShowsPage O.taken O.failures drawn.entry.source.now drawn.entry.statement.now
+        (λ p. ShowsPage O.taken O.failures (file_of drawn.entry.source) drawn.entry.statement.now
         drawn.entry.extent p out.old out.new (fault_only result)) out.old out.new (fault_only result) }
     ensures carries { IfErr result
-        (CarriesReadBy (given profile.entry) drawn.entry.source.now (drawn.entry.statement.now ∷ [])) }
+        (CarriesReadBy (given profile.entry) (file_of drawn.entry.source) (drawn.entry.statement.now ∷ [])) }
 {
     let profile = profile_of(alloc, profile)?;
     let text = read_page(alloc, drawn, &profile)?;

@@ -4,6 +4,7 @@ ghost use Rattle.handlers.specs.Priced.{Priced, given};
 ghost use Rattle.handlers.specs.Refusal.{CarriesReadBy, fault_only};
 ghost use Rattle.explain_reports.specs.Check.{verdict_line};
 ghost use Rattle.explain_reports.specs.Verdict.{ExplainsVerdict, row_text};
+ghost use Rattle.sources.specs.File.{file_of};
 
 use crate::check::{CheckInputs, verdict_line};
 use crate::finding::found_of;
@@ -51,9 +52,9 @@ pub fn verdict_report<'a, O: Output>(
     out: &mut O,
 ) -> Result<bool, Refusal<'a>>
     ensures answers { Priced (given profile.entry)
-        (λ p. ExplainsVerdict O.taken O.failures inputs.entry.source.now inputs.entry.statement.now
+        (λ p. ExplainsVerdict O.taken O.failures (file_of inputs.entry.source) inputs.entry.statement.now
         inputs.entry.cert.now p out.old out.new (fault_only result)) out.old out.new (fault_only result) }
-    ensures carries { IfErr result (CarriesReadBy (given profile.entry) inputs.entry.source.now
+    ensures carries { IfErr result (CarriesReadBy (given profile.entry) (file_of inputs.entry.source)
         (inputs.entry.statement.now ∷ [])) }
 {
     let profile = profile_of(alloc, profile)?;

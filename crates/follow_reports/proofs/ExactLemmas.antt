@@ -33,6 +33,7 @@ use Rattle.follow_reports.specs.declared.differences.Compared.{Compared}
 use Rattle.follow_reports.specs.Differences.{compared_at, run_at, capped_at, walk_at}
 use Rattle.follow_reports.specs.DifferenceText.{IsTable}
 use Rattle.handlers.proofs.ReportLemmas.{bound_fits}
+use Rattle.sources.specs.File.{File}
 
 capped_is : (n : ℕ) → n < 2 ^ 64 → capped n ≡ n
 capped_is n small = omega arith
@@ -103,7 +104,7 @@ module _ (flow : Flow) (well : IsWellFormed flow) (tree : Tree) (longest : Longe
 
 -- ## Both
 
-pub table_exact : (source : List ℕ) (words : Words) (st : Stated) (flow : Flow) (tree : Tree) (longest : Longest) (s : State) (inputs : List Input) (walk : List Edge) (passes : List Pass) (text : List ℕ)
+pub table_exact : (source : File) (words : Words) (st : Stated) (flow : Flow) (tree : Tree) (longest : Longest) (s : State) (inputs : List Input) (walk : List Edge) (passes : List Pass) (text : List ℕ)
     → IsWellFormed flow → StepCost → IsLongest flow tree longest → Leads edge_shape (HasEdge flow) flow.entry walk Exit → Follows words st flow.profile s inputs walk → ArePasses flow s inputs walk passes
     → cost_of edge_shape walk ≤ longest.bound → IsTable source words st flow (capped_at flow passes (unfolded longest.walk)) text → IsTable source words st flow (compared_at flow passes (unfolded longest.walk)) text
 table_exact source words st flow tree longest s inputs walk passes text well law is leads follows are most table =

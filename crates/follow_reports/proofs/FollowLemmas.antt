@@ -33,11 +33,12 @@ use Rattle.handlers.specs.Placing.{IsPlaced, IsRunRefused}
 use Rattle.handlers.specs.Report.{BeforeOutput, HasLoops, IsAccepted, IsRefused}
 use Rattle.sources.specs.Source.{source_of}
 use Rattle.handlers.specs.declared.fault.ReportFault.{ReportFault}
-use Rattle.handlers.specs.declared.fault.ReportFault.TheVariants.{Memory, Source, Image, MachineFile, Load, Device}
+use Rattle.handlers.specs.declared.fault.ReportFault.TheVariants.{Memory, Source, Image, Dialect, MachineFile, Load, Device}
 use Rattle.follow_reports.proofs.ExactLemmas.{table_exact}
 use Rattle.handlers.proofs.PlacingLemmas.{runnable_refusals}
 use Rattle.handlers.proofs.ReportLemmas.{accepted, accepted_refusals, bounded, bounds_runs, kept_here, kept_there}
 use Rattle.handlers.proofs.HandlerLemmas.{same_words}
+use Rattle.sources.specs.File.{File}
 
 -- ## The run
 
@@ -49,7 +50,7 @@ module _ (words : Words) (st : Stated) (flow : Flow) (tree : Tree) (of : IsTreeO
   pub by_tree : (is : List Input) → KeepsStatement words st flow.profile flow s is → KeepsTo words st flow tree s is
   by_tree is k = record { walk = k.walk; complete = k.complete; kept = kept_there flow st.loops tree of.instances k.walk k.kept; follows = k.follows }
 
-module _ (words : Words) (st : Stated) (flow : Flow) (tree : Tree) (of : IsTreeOf flow st.loops tree) (source : List ℕ) (longest : Longest) (s : State) (inputs : List Input) where
+module _ (words : Words) (st : Stated) (flow : Flow) (tree : Tree) (of : IsTreeOf flow st.loops tree) (source : File) (longest : Longest) (s : State) (inputs : List Input) where
   at_most : RunLaw → IsGreatestCost flow st.loops longest.bound → (steps ticks : ℕ) (by_place : List Passed) (after : State)
       → IsKeptRun words st flow tree s inputs steps ticks by_place after → ticks ≤ longest.bound
   at_most law greatest steps ticks by_place after k =
@@ -121,7 +122,7 @@ all_places words st flow tree s inputs after (Kept steps ticks by_place) is = is
 all_places words st flow tree s inputs after (Strayed steps at why) is = tt
 
 -- the machine that a file states has all its registers, and the prices of the graph
-pub machine_for : (source machine : List ℕ) (profile : Profile) (file : machine_file.Stated) (state : State) (flow : Flow) → flow.profile ≡ profile → length file.processor.registers ≡ 26
+pub machine_for : (source : File) (machine : List ℕ) (profile : Profile) (file : machine_file.Stated) (state : State) (flow : Flow) → flow.profile ≡ profile → length file.processor.registers ≡ 26
     → IsPlaced source machine profile file state → IsMachineFor flow state
 machine_for source machine profile file state flow same count placed =
     let all : length (file.processor.registers ++ r15_in file.processor ∷ []) ≡ length file.processor.registers + 1 = length-append file.processor.registers (r15_in file.processor ∷ []) in
@@ -132,7 +133,7 @@ machine_for source machine profile file state flow same count placed =
 
 -- ## The report
 
-module _ (source statement machine : List ℕ) (profile : Profile) (words : Words) (names : Names) (said : source_of source ≡ Ok (words, names))
+module _ (source : File) (statement machine : List ℕ) (profile : Profile) (words : Words) (names : Names) (said : source_of source ≡ Ok (words, names))
     (st : Stated) (flow : Flow) (tree : Tree) (loops : HasLoops source statement profile st flow) (of : IsTreeOf flow st.loops tree) where
   -- the graph is that of the words that the source says
   own_words : loops.graph.words ≡ words
@@ -159,7 +160,7 @@ module _ (source statement machine : List ℕ) (profile : Profile) (words : Word
 
 -- ## Refusals
 
-module _ (source statement machine : List ℕ) (profile : Profile) where
+module _ (source : File) (statement machine : List ℕ) (profile : Profile) where
   abbrev pub Refused : ReportFault → Type 0
   Refused = BeforeOutput (IsFollowRefused source statement machine profile)
 
@@ -178,6 +179,7 @@ module _ (source statement machine : List ℕ) (profile : Profile) where
   machine_refuses Device a h = tt
   machine_refuses (Source f) a h = h
   machine_refuses (Image f) a h = h
+  machine_refuses (Dialect f) a h = h
   machine_refuses (MachineFile f) a h = (a, h)
   machine_refuses (Load f) a h = (a, h)
   machine_refuses e a h = absurd h

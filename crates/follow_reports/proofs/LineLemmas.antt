@@ -9,13 +9,14 @@ use Rattle.sources.specs.Source.{IsSource}
 use Rattle.sources.specs.declared.read.Source.{Source}
 use Rattle.text_rows.specs.WordLines.{line_at, numbered}
 use Rattle.text_rows.specs.declared.line_labels.SourceLine.{SourceLine}
+use Rattle.sources.specs.File.{File}
 
 number_of : (found : Option (Bor SourceLine)) → option_map (λ l. l.now.number) found ≡ option_map (λ l. l.number) (option_map numbered (option_map (λ l. l.now) found))
 number_of None = refl
 number_of (Some line) = refl
 
 -- by the source's lines
-pub numbered_by : (source : List ℕ) (read : Source) → IsSource source read → (lines : BTreeMap ℕ SourceLine) → AreLines read lines → (at : ℕ) (found : Option (Bor SourceLine))
+pub numbered_by : (source : File) (read : Source) → IsSource source read → (lines : BTreeMap ℕ SourceLine) → AreLines read lines → (at : ℕ) (found : Option (Bor SourceLine))
     → option_map (λ l. l.now) found ≡ line_at lines at → (number : Option ℕ) → number ≡ option_map (λ l. l.now.number) found → IsLineNumberAt source at number
 numbered_by source read is_read lines are at found is number number_is = record {
   read = read;

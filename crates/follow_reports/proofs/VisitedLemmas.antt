@@ -1,5 +1,5 @@
 -- A report on a run with visits, from what is found of a source, two statements and a machine file.
-use Rattle.std.proofs.Common.{◌≡◌, ◌∙◌, ◌⊎◌, ℕ, ◌≤◌, ◌<◌, ◌^◌, Bool, List, [], ◌∷◌, drop, Result, Ok, Err, refl, sym, subst, inl, inr, arith}
+use Rattle.std.proofs.Common.{◌≡◌, ◌∙◌, ◌⊎◌, ℕ, ◌≤◌, ◌<◌, ◌^◌, Bool, true, List, [], ◌∷◌, ◌++◌, drop, Result, Ok, Err, refl, sym, ap, subst, inl, inr, arith}
 use Rattle.std.specs.Prelude.{IfErr}
 use Rattle.bus_ticks.specs.declared.profile.Profile.{Profile}
 use Rattle.bus_ticks.specs.Worst.{fiq_entry}
@@ -25,6 +25,8 @@ use Rattle.kept_runs.specs.Visited.{AreVisits, FollowsVisited, Handled, IsKeptVi
 use Rattle.kept_runs.specs.declared.visited.VisitedRun.{VisitedRun}
 use Rattle.kept_runs.specs.declared.visited.VisitedRun.TheVariants.{Kept, Strayed}
 use Rattle.follow_reports.specs.FollowVisits.{AreBothAccepted, AreFollowable, AreNotFollowed, BoundHandler, IsArrivalText, IsFollowVisitsReport, IsVisitsText, KeepsWithinTotal, NoneKeepsStatements}
+use Rattle.follow_reports.specs.FollowText.{IsLeftText}
+use Rattle.follow_reports.specs.VisitedText.{kept_visits_text}
 use Rattle.follow_reports.specs.VisitedWork.{IsArrivedRun, IsBoundOf, IsRunElsewhere, IsRunText, IsVisitsJudged}
 use Rattle.follow_reports.specs.declared.follow_visits.BoundedHandler.{BoundedHandler}
 use Rattle.handlers.specs.FiqHandler.{IsFiqRefused}
@@ -41,6 +43,7 @@ use Rattle.handlers.proofs.ReportLemmas.{accepted, accepted_refusals, bound_is_a
 use Rattle.handlers.proofs.VisitLemmas.{bounds_visited}
 use Rattle.handlers.proofs.HandlerLemmas.{same_words}
 use Rattle.follow_reports.proofs.FollowLemmas.{by_tree, own_graph, states}
+use Rattle.sources.specs.File.{File}
 
 -- ## What keeps FIQ's statement in one sense keeps it in the other
 
@@ -135,11 +138,11 @@ module _ (words : Words) (st : Stated) (flow : Flow) (tree : Tree) (of : IsTreeO
 
 -- ## The report
 
-pub bound_accepted : (source statement : List ℕ) (profile : Profile) (b : BoundedHandler) → IsBoundOf source statement profile b → IsAccepted source statement profile
+pub bound_accepted : (source : File) (statement : List ℕ) (profile : Profile) (b : BoundedHandler) → IsBoundOf source statement profile b → IsAccepted source statement profile
 unfolding accepted
 bound_accepted source statement profile b is = accepted source statement profile b.handler.statement b.handler.graph b.handler.tree is.loops is.tree is.allowed
 
-module _ (source statement fiq machine : List ℕ) (profile : Profile) (words : Words) (names : Names) (said : source_of source ≡ Ok (words, names))
+module _ (source : File) (statement fiq machine : List ℕ) (profile : Profile) (words : Words) (names : Names) (said : source_of source ≡ Ok (words, names))
     (irq other : BoundedHandler) (first : IsBoundOf source statement profile irq) (second : IsBoundOf source fiq profile other) where
   abbrev st : Stated
   st = irq.handler.statement
@@ -289,7 +292,7 @@ module _ (source statement fiq machine : List ℕ) (profile : Profile) (words : 
 
 -- ## Refusals
 
-module _ (source statement fiq machine : List ℕ) (profile : Profile) where
+module _ (source : File) (statement fiq machine : List ℕ) (profile : Profile) where
   abbrev pub Refused : ReportFault → Type 0
   Refused = BeforeOutput (AreNotFollowed source statement fiq machine profile)
 
@@ -317,3 +320,11 @@ module _ (source statement fiq machine : List ℕ) (profile : Profile) where
     both = record { handler = r.bounded.accepted; fiq_handler = record { accepted = r.fiq_bounded.accepted; entry_is = r.fiq_entry_is } };
     runnable = record { file = r.loaded.file; state = r.state; placed = r.loaded.placed };
   }
+
+-- the answer on a kept run
+pub kept_answer : (source : File) (words : Words) (profile : Profile) (irq fiq : BoundedHandler) (before after : ℕ) (run : VisitedRun) (steps ticks visits : ℕ) (line : List ℕ) (kept : Bool) (text : List ℕ)
+    → run ≡ Kept steps ticks visits → line ≡ kept_visits_text ticks visits (visits_bound profile irq.bound fiq.bound visits)
+    → (kept ≡ true) × ((left : List ℕ) × IsLeftText source words after left × (text ≡ line ++ left)) → IsRunText source words profile irq fiq before after run kept text
+kept_answer source words profile irq fiq before after run steps ticks visits line kept text is line_is h =
+    subst (λ (r : VisitedRun). IsRunText source words profile irq fiq before after r kept text) (sym is)
+    (h.0, (h.1.0, h.1.1, h.1.2 ∙ ap (λ (l : List ℕ). l ++ h.1.0) line_is))

@@ -21,6 +21,7 @@ use Rattle.follow_reports.specs.declared.differences.Cause.TheVariants.{OtherWay
 use Rattle.follow_reports.specs.declared.differences.Compared.{Compared}
 use Rattle.follow_reports.specs.declared.differences.Difference.{Difference}
 use Rattle.follow_reports.specs.declared.differences.Numbers.{Numbers}
+use Rattle.sources.specs.File.{File}
 
 -- ## Rows
 
@@ -104,7 +105,7 @@ sums_heading = codes "    less     more  ticks of the run, by\n"
 
 -- a row for each word of the source, which has these words, where the two differ, the greatest difference
 -- first; and below them their sums by cause; no text where they nowhere differ
-pub record IsTable (source : List ℕ) (words : Words) (st : Stated) (flow : Flow) (compared : ℕ → Compared)
+pub record IsTable (source : File) (words : Words) (st : Stated) (flow : Flow) (compared : ℕ → Compared)
     (text : List ℕ) : Type 0 where
   pub read : Source
   pub is_read : IsSource source read

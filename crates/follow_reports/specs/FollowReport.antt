@@ -25,6 +25,7 @@ use Rattle.handlers.specs.Placing.{IsFileRefused, IsLoadRefused, IsLoaded, IsRun
 use Rattle.handlers.specs.Report.{IsAccepted, IsBounded, IsRefused}
 use Rattle.handlers.specs.declared.fault.ReportFault.{ReportFault}
 use Rattle.handlers.specs.declared.fault.ReportFault.TheVariants as report_fault
+use Rattle.sources.specs.File.{File}
 
 -- ## Runs from a state, by inputs that may be more than the run needs
 
@@ -45,7 +46,7 @@ module _ (words : Words) (stated : Stated) (profile : Profile) (flow : Flow) (st
   abbrev pub NoneKeeps : Type 0
   NoneKeeps = (steps : ℕ) → KeepsStatement words stated profile flow state (take steps inputs) → ⊥
 
-  module _ (source : List ℕ) (tree : Tree) (longest : Longest) where
+  module _ (source : File) (tree : Tree) (longest : Longest) where
     -- how many ticks the run takes, whether it goes on at a word of the source, where it and the greatest
     -- walk differ, and which of the words that it does an explanation warns of
     pub record IsKeptText (text : List ℕ) : Type 0 where
@@ -81,7 +82,7 @@ module _ (words : Words) (stated : Stated) (profile : Profile) (flow : Flow) (st
 -- ## The report
 
 -- the answer on the run of a machine through an accepted handler, and its text
-pub record IsFollowReport (source statement machine : List ℕ) (profile : Profile) (kept : Bool)
+pub record IsFollowReport (source : File) (statement machine : List ℕ) (profile : Profile) (kept : Bool)
     (text : List ℕ) : Type 0 where
   pub bounded : IsBounded source statement profile
   pub state : State
@@ -93,12 +94,12 @@ pub record IsFollowReport (source statement machine : List ℕ) (profile : Profi
 -- ## Refusals
 
 -- an accepted handler, and a machine that can be loaded
-pub record IsFollowable (source statement machine : List ℕ) (profile : Profile) : Type 0 where
+pub record IsFollowable (source : File) (statement machine : List ℕ) (profile : Profile) : Type 0 where
   pub accepted : IsAccepted source statement profile
   pub runnable : IsRunnable source machine profile
 
 -- when each refusal is answered: those of the handler, and then those of the machine
-abbrev pub IsFollowRefused : List ℕ → List ℕ → List ℕ → Profile → ReportFault → Type 0
+abbrev pub IsFollowRefused : File → List ℕ → List ℕ → Profile → ReportFault → Type 0
 IsFollowRefused source statement machine profile (report_fault.MachineFile fault) =
     IsAccepted source statement profile × IsFileRefused source machine fault
 IsFollowRefused source statement machine profile (report_fault.Load fault) =
@@ -108,7 +109,7 @@ IsFollowRefused source statement machine profile fault = IsRefused source statem
 -- ## The call
 
 -- the answer to a source, a statement and a machine file
-abbrev pub FollowsRun : {O : Type 0} → (O → Option (List ℕ)) → (O → ℕ) → List ℕ → List ℕ → List ℕ → Profile
+abbrev pub FollowsRun : {O : Type 0} → (O → Option (List ℕ)) → (O → ℕ) → File → List ℕ → List ℕ → Profile
     → O → O → Result Bool ReportFault → Type 0
 FollowsRun taken failures source statement machine profile old new result =
     Answers taken failures (IsFollowReport source statement machine profile)

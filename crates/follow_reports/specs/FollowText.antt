@@ -26,6 +26,7 @@ use Rattle.text_explained.specs.Taken.{is_at}
 use Rattle.control_flow.specs.Flow.{Flow}
 use Rattle.control_flow.specs.Places.{place_at}
 use Rattle.kept_runs.specs.Passing.{Pass}
+use Rattle.sources.specs.File.{File}
 
 -- ## A run that keeps the statement
 
@@ -112,7 +113,7 @@ strayed_text steps at line why =
 -- ## The line
 
 -- the number of the line of a text that has a word at the address; an image has no lines
-pub record IsLineNumberAt (source : List ℕ) (address : ℕ) (line : Option ℕ) : Type 0 where
+pub record IsLineNumberAt (source : File) (address : ℕ) (line : Option ℕ) : Type 0 where
   pub read : Source
   pub is_read : IsSource source read
   pub line_is : line ≡ option_map (λ l. l.number) (line_of read address)
@@ -125,7 +126,7 @@ IsDoneAt flow passes a =
     (p : Pass) × Contains passes p × (p.done ≡ true) × (is_at a (place_at flow.places p.place) ≡ true)
 
 -- the returns and ways out of which an explanation warns, of the words alone that the steps do
-pub record AreWarnings (source : List ℕ) (words : Words) (st : Stated) (flow : Flow) (passes : List Pass)
+pub record AreWarnings (source : File) (words : Words) (st : Stated) (flow : Flow) (passes : List Pass)
     (text : List ℕ) : Type 0 where
   pub read : Source
   pub is_read : IsSource source read
@@ -138,7 +139,7 @@ abbrev pub left_line : (at : ℕ) → (line : Option ℕ) → List ℕ
 left_line at line = codes "left to " ++ (hex at ++ (line_text line ++ codes ", a word of the source\n"))
 
 -- a line where the source has a word at the address, and nothing where it has none
-abbrev pub IsLeftText : (source : List ℕ) → Words → (at : ℕ) → (text : List ℕ) → Type 0
+abbrev pub IsLeftText : (source : File) → Words → (at : ℕ) → (text : List ℕ) → Type 0
 IsLeftText source words at text =
     MatchOption (word_of words at) (text ≡ [])
     (λ _. (line : Option ℕ) × IsLineNumberAt source at line × (text ≡ left_line at line))

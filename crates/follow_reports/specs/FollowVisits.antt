@@ -20,6 +20,7 @@ use Rattle.handlers.specs.Report.{IsAccepted, IsBounded, IsRefused}
 use Rattle.handlers.specs.Visits.{KeepsVisited}
 use Rattle.handlers.specs.Answers.{Answers}
 use Rattle.handlers.specs.declared.fault.ReportFault.{ReportFault}
+use Rattle.sources.specs.File.{File}
 
 -- a handler with its bound, in ticks
 pub record BoundHandler : Type 0 where
@@ -27,7 +28,7 @@ pub record BoundHandler : Type 0 where
   pub bound : ℕ
 
 -- that of a source and a statement
-abbrev pub bound_handler : {source statement : List ℕ} {profile : Profile}
+abbrev pub bound_handler : {source : File} {statement : List ℕ} {profile : Profile}
     → IsBounded source statement profile → BoundHandler
 bound_handler b = record {
   handled = record {
@@ -68,7 +69,7 @@ module _ (irq fiq : BoundHandler) (profile : Profile) (s : State) (inputs : List
   NoneKeepsStatements =
       (n : ℕ) (main : List MainStep) → inputs_of main ≡ take n inputs → KeepsStatements main → ⊥
 
-  module _ (source : List ℕ) (before : ℕ) where
+  module _ (source : File) (before : ℕ) where
     -- how many ticks the run takes, with how many visits, and whether it goes on at a word of the source
     pub record IsKeptVisitsText (text : List ℕ) : Type 0 where
       pub visits : ℕ
@@ -101,7 +102,7 @@ module _ (irq fiq : BoundHandler) (profile : Profile) (s : State) (inputs : List
 -- ## From any state: the run is judged from where it first comes to the entry
 
 module _ (irq fiq : BoundHandler) (profile : Profile) (s : State) (inputs : List Input)
-    (source : List ℕ) where
+    (source : File) where
   -- it comes there after so many steps
   pub record IsArrivedText (kept : Bool) (text : List ℕ) : Type 0 where
     pub before : ℕ
@@ -122,8 +123,8 @@ module _ (irq fiq : BoundHandler) (profile : Profile) (s : State) (inputs : List
 
 -- the answer on the run of a machine through an accepted handler that FIQ's, which is accepted too,
 -- interrupts
-pub record IsFollowVisitsReport (source statement fiq machine : List ℕ) (profile : Profile) (kept : Bool)
-    (text : List ℕ) : Type 0 where
+pub record IsFollowVisitsReport (source : File) (statement fiq machine : List ℕ) (profile : Profile)
+    (kept : Bool) (text : List ℕ) : Type 0 where
   pub bounded : IsBounded source statement profile
   pub fiq_bounded : IsBounded source fiq profile
   pub fiq_entry_is : fiq_bounded.accepted.stated.entry ≡ FIQ_VECTOR
@@ -136,22 +137,22 @@ pub record IsFollowVisitsReport (source statement fiq machine : List ℕ) (profi
 -- ## Refusals
 
 -- FIQ's handler is accepted, and begins at FIQ's vector
-pub record IsFiqAccepted (source fiq : List ℕ) (profile : Profile) : Type 0 where
+pub record IsFiqAccepted (source : File) (fiq : List ℕ) (profile : Profile) : Type 0 where
   pub accepted : IsAccepted source fiq profile
   pub entry_is : accepted.stated.entry ≡ FIQ_VECTOR
 
 -- both handlers are accepted
-pub record AreBothAccepted (source statement fiq : List ℕ) (profile : Profile) : Type 0 where
+pub record AreBothAccepted (source : File) (statement fiq : List ℕ) (profile : Profile) : Type 0 where
   pub handler : IsAccepted source statement profile
   pub fiq_handler : IsFiqAccepted source fiq profile
 
 -- and the machine can be loaded
-pub record AreFollowable (source statement fiq machine : List ℕ) (profile : Profile) : Type 0 where
+pub record AreFollowable (source : File) (statement fiq machine : List ℕ) (profile : Profile) : Type 0 where
   pub both : AreBothAccepted source statement fiq profile
   pub runnable : IsRunnable source machine profile
 
 -- when each refusal is answered: those of the handler, then those of FIQ's, then those of the machine
-abbrev pub AreNotFollowed : List ℕ → List ℕ → List ℕ → List ℕ → Profile → ReportFault → Type 0
+abbrev pub AreNotFollowed : File → List ℕ → List ℕ → List ℕ → Profile → ReportFault → Type 0
 AreNotFollowed source statement fiq machine profile fault =
     IsRefused source statement profile fault
     ⊎ ((IsAccepted source statement profile × IsFiqRefused source fiq profile fault)
@@ -160,7 +161,7 @@ AreNotFollowed source statement fiq machine profile fault =
 -- ## The call
 
 -- the answer to a source, two statements and a machine file
-abbrev pub FollowsVisitedRun : {O : Type 0} → (O → Option (List ℕ)) → (O → ℕ) → List ℕ → List ℕ → List ℕ
+abbrev pub FollowsVisitedRun : {O : Type 0} → (O → Option (List ℕ)) → (O → ℕ) → File → List ℕ → List ℕ
     → List ℕ → Profile → O → O → Result Bool ReportFault → Type 0
 FollowsVisitedRun taken failures source statement fiq machine profile old new result =
     Answers taken failures (IsFollowVisitsReport source statement fiq machine profile)

@@ -26,11 +26,12 @@ use Rattle.follow_reports.specs.FollowText.{AreWarnings, IsLeftText, IsLineNumbe
 use Rattle.follow_reports.specs.FollowText.{strayed_text, why_text}
 use Rattle.follow_reports.specs.declared.follow.FollowedRun.{FollowedRun}
 use Rattle.handlers.specs.declared.fault.ReportFault.{ReportFault}
+use Rattle.sources.specs.File.{File, file_of}
 
 -- the answer on a run that is kept: its ticks, whether the address after it has a word of the source, and,
 -- whatever its steps are, where it and the walk differ, by numbers that are counted up to 2^64 - 1, and which
 -- of the words that it does are warned of
-pub record IsTallyText (source : List ℕ) (words : Words) (st : statement.Stated) (flow : Flow)
+pub record IsTallyText (source : File) (words : Words) (st : statement.Stated) (flow : Flow)
     (longest : Longest) (at ticks : ℕ) (by_place : List Passed) (text : List ℕ) : Type 0 where
   pub left : List ℕ
   pub left_is : IsLeftText source words at left
@@ -65,7 +66,7 @@ HasAllPlaces flow (Kept steps ticks by_place) = length by_place.items ≡ length
 HasAllPlaces flow (Strayed steps at why) = Unit {0}
 
 -- the answer on the outcome of a followed run, after which the machine is at the address
-abbrev pub IsFollowedText : (source : List ℕ) → Words → statement.Stated → Flow → Longest → (after : ℕ)
+abbrev pub IsFollowedText : (source : File) → Words → statement.Stated → Flow → Longest → (after : ℕ)
     → Followed → Bool → List ℕ → Type 0
 IsFollowedText source words st flow longest after (Kept steps ticks by_place) kept text =
     (kept ≡ true) × IsTallyText source words st flow longest after ticks by_place.items text
@@ -76,7 +77,7 @@ IsFollowedText source words st flow longest after (Strayed steps at why) kept te
 
 -- the answer on the run of a machine from a state, by the inputs that its file states
 pub record IsJudgedRun (words : Words) (st : statement.Stated) (flow : Flow) (tree : Tree)
-    (source : List ℕ) (longest : Longest) (file : Stated) (state : State) (kept : Bool)
+    (source : File) (longest : Longest) (file : Stated) (state : State) (kept : Bool)
     (text : List ℕ) : Type 0 where
   pub inputs : List Input
   pub inputs_are : AreInputs file.schedule inputs
@@ -85,9 +86,9 @@ pub record IsJudgedRun (words : Words) (st : statement.Stated) (flow : Flow) (tr
 -- whether a run keeps its statement by a profile, and the report that says so
 abbrev pub IsReportOn : FollowedRun → Profile → (kept : Bool) → (text : List ℕ) → Type 0
 IsReportOn run profile kept text =
-    IsFollowReport run.source.now run.statement.now run.machine.now profile kept text
+    IsFollowReport (file_of run.source) run.statement.now run.machine.now profile kept text
 
 -- when each refusal of a run by a profile is answered
 abbrev pub IsRefusalOf : FollowedRun → Profile → ReportFault → Type 0
 IsRefusalOf run profile fault =
-    IsFollowRefused run.source.now run.statement.now run.machine.now profile fault
+    IsFollowRefused (file_of run.source) run.statement.now run.machine.now profile fault

@@ -24,9 +24,11 @@ use Rattle.follow_reports.specs.declared.follow_visits.FollowedVisits.{FollowedV
 use Rattle.handlers.specs.Report.{HasLoops}
 use Rattle.loop_bounds.specs.Handler.{HasItsTree}
 use Rattle.handlers.specs.declared.fault.ReportFault.{ReportFault}
+use Rattle.sources.specs.File.{File, file_of}
 
 -- the handler of a source and a statement, and its bound
-pub record IsBoundOf (source statement : List ℕ) (profile : Profile) (b : BoundedHandler) : Type 0 where
+pub record IsBoundOf (source : File) (statement : List ℕ) (profile : Profile)
+    (b : BoundedHandler) : Type 0 where
   pub loops : HasLoops source statement profile b.handler.statement b.handler.graph
   pub image : b.handler.image.now ≡ loops.graph.words
   pub tree : HasItsTree b.handler
@@ -37,7 +39,7 @@ pub record IsBoundOf (source statement : List ℕ) (profile : Profile) (b : Boun
   pub bound_is : b.bound ≡ longest.bound
 
 -- the answer on a judged run: so many steps come before the entry, and the machine is at the address after it
-abbrev pub IsRunText : (source : List ℕ) → Words → Profile → (irq fiq : BoundedHandler) → (before after : ℕ)
+abbrev pub IsRunText : (source : File) → Words → Profile → (irq fiq : BoundedHandler) → (before after : ℕ)
     → VisitedRun → Bool → List ℕ → Type 0
 IsRunText source words profile irq fiq before after (Kept steps ticks visits) kept text =
     (kept ≡ true)
@@ -51,7 +53,7 @@ IsRunText source words profile irq fiq before after (Strayed steps at why) kept 
     (visit_why_text irq.handler.statement fiq.handler.statement at why)))
 
 -- and what was judged
-pub record IsArrivedRun (source : List ℕ) (words : Words) (profile : Profile) (irq fiq : BoundedHandler)
+pub record IsArrivedRun (source : File) (words : Words) (profile : Profile) (irq fiq : BoundedHandler)
     (s : State) (inputs : List Input) (kept : Bool) (text : List ℕ) : Type 0 where
   pub before : ℕ
   pub now : State
@@ -69,7 +71,7 @@ pub record IsRunElsewhere (irq : BoundedHandler) (s : State) (inputs : List Inpu
   pub text_is : text ≡ never_text irq.handler.statement.entry
 
 -- the answer on the run of a machine from a state, by the inputs that its file states
-pub record IsVisitsJudged (source : List ℕ) (words : Words) (profile : Profile) (irq fiq : BoundedHandler)
+pub record IsVisitsJudged (source : File) (words : Words) (profile : Profile) (irq fiq : BoundedHandler)
     (file : machine_file.Stated) (s : State) (kept : Bool) (text : List ℕ) : Type 0 where
   pub inputs : List Input
   pub inputs_are : AreInputs file.schedule inputs
@@ -79,10 +81,10 @@ pub record IsVisitsJudged (source : List ℕ) (words : Words) (profile : Profile
 -- whether a run keeps both statements by a profile, and the report that says so
 abbrev pub IsVisitsReportOn : FollowedVisits → Profile → (kept : Bool) → (text : List ℕ) → Type 0
 IsVisitsReportOn run profile kept text =
-    IsFollowVisitsReport run.source.now run.statement.now run.fiq_statement.now run.machine.now profile kept
-    text
+    IsFollowVisitsReport (file_of run.source) run.statement.now run.fiq_statement.now run.machine.now profile
+    kept text
 
 -- when each refusal of a run by a profile is answered
 abbrev pub IsVisitsRefusalOf : FollowedVisits → Profile → ReportFault → Type 0
 IsVisitsRefusalOf run profile fault =
-    AreNotFollowed run.source.now run.statement.now run.fiq_statement.now run.machine.now profile fault
+    AreNotFollowed (file_of run.source) run.statement.now run.fiq_statement.now run.machine.now profile fault

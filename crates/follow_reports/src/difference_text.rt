@@ -13,6 +13,7 @@ ghost use Rattle.follow_reports.specs.DifferenceText.{IsDifferenceRow, IsEnd, Is
 ghost use Rattle.follow_reports.specs.DifferenceText.{compared_text, heading_of, is_same, lines_in};
 ghost use Rattle.follow_reports.specs.DifferenceText.{numbers_text, sum_of, sum_row, sum_row_if, sum_rows};
 ghost use Rattle.follow_reports.specs.DifferenceText.{sums_heading};
+ghost use Rattle.sources.specs.File.{File};
 
 use crate::differences::{Cause, Compared, Difference, Numbers, differences};
 use kept_runs::Passed;
@@ -277,7 +278,7 @@ pub(crate) fn difference_table(
 ) -> Result<Vec<u8>, AllocError>
     requires image { handler.now.image.now ≡ read.now.image }
     requires places { length by_place.now ≡ length handler.now.graph.places }
-    ensures { (source : List ℕ) (passes : List Pass) → IsSource source read.now
+    ensures { (source : File) (passes : List Pass) → IsSource source read.now
         → IsTally handler.now.graph passes by_place.now
         → IfOk result
         (λ text. IsTable source read.now.image handler.now.statement handler.now.graph

@@ -15,6 +15,7 @@ ghost use Rattle.handlers.specs.Refusal.{Carries, CarriesRead, CarriesReadBy, Co
 ghost use Rattle.handlers.specs.Refusal.{stop_fault};
 ghost use Rattle.handlers.specs.Report.{BeforeOutput, HasLoops};
 ghost use Rattle.sources.specs.Source.{IsSource};
+ghost use Rattle.sources.specs.File.{file_of};
 
 use crate::difference_text::difference_table;
 use crate::follow_text::{kept_text, left_text, line_number_at, strayed_text, why_text};
@@ -30,14 +31,14 @@ use kept_runs::{Followed, Passed, Unkept, follow};
 use longest_walk::Longest;
 use machine_file::MachineFile;
 use outputs::Output;
-use sources::Source;
+use sources::{Source, SourceFile};
 use std::alloc::{AllocError, Global};
 
 /// A handler, and a machine whose run through it is judged.
 #[derive(Clone, Copy)]
 pub struct FollowedRun<'a> {
     /// The bytes of the handler's source, a text or an image.
-    pub source: &'a [u8],
+    pub source: SourceFile<'a>,
     /// The text of the statement on it.
     pub statement: &'a [u8],
     /// The text of the machine file.
@@ -54,7 +55,7 @@ pub(crate) struct Judged {
 // A handler that was read, with its source and its greatest walk.
 #[derive(Clone, Copy)]
 struct Bounded<'a> {
-    source: &'a [u8],
+    source: SourceFile<'a>,
     read: &'a Source<'a>,
     handler: &'a Handler<'a>,
     longest: &'a Longest,
@@ -68,11 +69,11 @@ fn kept_run(
     ticks: u128,
     by_place: &[Passed],
 ) -> Result<Vec<u8>, AllocError>
-    requires read { IsSource bounded.source.now bounded.read.now }
+    requires read { IsSource (file_of bounded.source) bounded.read.now }
     requires image { bounded.handler.now.image.now ≡ bounded.read.now.image }
     requires places { length by_place.now ≡ length bounded.handler.now.graph.places }
     ensures { IfOk result
-        (λ text. IsTallyText bounded.entry.source.now bounded.entry.read.now.image
+        (λ text. IsTallyText (file_of bounded.entry.source) bounded.entry.read.now.image
         bounded.entry.handler.now.statement bounded.entry.handler.now.graph bounded.entry.longest.now at
         ticks by_place.now text.items) }
 {
@@ -101,9 +102,9 @@ fn strayed_run(
     at: u32,
     why: Unkept,
 ) -> Result<Vec<u8>, AllocError>
-    requires { IsSource bounded.source.now bounded.read.now }
+    requires { IsSource (file_of bounded.source) bounded.read.now }
     ensures { IfOk result
-        (λ text. (line : Option ℕ) × IsLineNumberAt bounded.entry.source.now at line
+        (λ text. (line : Option ℕ) × IsLineNumberAt (file_of bounded.entry.source) at line
         × (text.items ≡ strayed_text steps at line (why_text bounded.entry.handler.now.statement at why))) }
 {
     let line = line_number_at(alloc, bounded.read, at)?;
@@ -119,11 +120,11 @@ fn judgement(
     after: u32,
     followed: &Followed,
 ) -> Result<Judged, AllocError>
-    requires read { IsSource bounded.source.now bounded.read.now }
+    requires read { IsSource (file_of bounded.source) bounded.read.now }
     requires image { bounded.handler.now.image.now ≡ bounded.read.now.image }
     requires places { HasAllPlaces bounded.handler.now.graph followed.now }
     ensures { IfOk result
-        (λ j. IsFollowedText bounded.entry.source.now bounded.entry.read.now.image
+        (λ j. IsFollowedText (file_of bounded.entry.source) bounded.entry.read.now.image
         bounded.entry.handler.now.statement bounded.entry.handler.now.graph bounded.entry.longest.now
         after followed.now j.kept j.text.items) }
 {
@@ -149,7 +150,7 @@ fn judged_run(
     bounded: Bounded<'_>,
     placed: &mut Placed,
 ) -> Result<Judged, ReportFault>
-    requires read { IsSource bounded.source.now bounded.read.now }
+    requires read { IsSource (file_of bounded.source) bounded.read.now }
     requires image { bounded.handler.now.image.now ≡ bounded.read.now.image }
     requires graph { IsFlowGraph bounded.read.now.image bounded.handler.now.statement
         bounded.handler.now.graph.profile bounded.handler.now.graph }
@@ -160,7 +161,7 @@ fn judged_run(
     requires machine { IsMachineFor bounded.handler.now.graph placed.old.machine }
     ensures judged { IfOk result
         (λ j. IsJudgedRun bounded.entry.read.now.image bounded.entry.handler.now.statement
-        bounded.entry.handler.now.graph bounded.entry.handler.now.tree bounded.entry.source.now
+        bounded.entry.handler.now.graph bounded.entry.handler.now.tree (file_of bounded.entry.source)
         bounded.entry.longest.now placed.old.file placed.old.machine j.kept j.text.items) }
     ensures fault { IfErr result (λ e. e ≡ ReportFault.Memory) }
 {
@@ -188,9 +189,9 @@ fn handler_run(
     handler: &Handler<'_>,
     profile: &Profile,
 ) -> Result<Judged, ReportFault>
-    requires said { IsSource run.source.now said.now }
+    requires said { IsSource (file_of run.source) said.now }
     requires image { handler.now.image.now ≡ said.now.image }
-    requires loops { HasLoops run.source.now run.statement.now profile.now handler.now.statement
+    requires loops { HasLoops (file_of run.source) run.statement.now profile.now handler.now.statement
         handler.now.graph }
     requires tree { HasItsTree handler.now }
     ensures judged { IfOk result (λ j. IsReportOn run.entry profile.now j.kept j.text.items) }
@@ -216,7 +217,7 @@ fn source_run<'a>(
     said: &Source<'_>,
     profile: &Profile,
 ) -> Result<Judged, Stop<'a>>
-    requires { IsSource run.source.now said.now }
+    requires { IsSource (file_of run.source) said.now }
     ensures judged { IfOk result (λ j. IsReportOn run.entry profile.now j.kept j.text.items) }
     ensures fault { IfErr result (λ s. BeforeOutput (IsRefusalOf run.entry profile.now) (stop_fault s)) }
     ensures carries { IfErr result (Carries said.now run.entry.statement.now profile.now) }
@@ -234,7 +235,7 @@ fn read_run<'a>(
     ensures judged { IfOk result (λ j. IsReportOn run.entry profile.now j.kept j.text.items) }
     ensures fault { IfErr (fault_only result) (BeforeOutput (IsRefusalOf run.entry profile.now)) }
     ensures carries { IfErr result
-        (CarriesRead run.entry.source.now (run.entry.statement.now ∷ []) profile.now) }
+        (CarriesRead (file_of run.entry.source) (run.entry.statement.now ∷ []) profile.now) }
 {
     let said = read_source(alloc, run.source)?;
     let judged = source_run(alloc, run, &said, profile);
@@ -265,9 +266,9 @@ pub fn follow_report<'a, O: Output>(
     out: &mut O,
 ) -> Result<bool, Refusal<'a>>
     ensures answers { Priced (given profile.entry)
-        (λ p. FollowsRun O.taken O.failures run.entry.source.now run.entry.statement.now
+        (λ p. FollowsRun O.taken O.failures (file_of run.entry.source) run.entry.statement.now
         run.entry.machine.now p out.old out.new (fault_only result)) out.old out.new (fault_only result) }
-    ensures carries { IfErr result (CarriesReadBy (given profile.entry) run.entry.source.now
+    ensures carries { IfErr result (CarriesReadBy (given profile.entry) (file_of run.entry.source)
         (run.entry.statement.now ∷ [])) }
 {
     let profile = profile_of(alloc, profile)?;

@@ -6,6 +6,7 @@ ghost use Rattle.follow_reports.specs.FollowText.{class_shown, kept_text, left_l
 ghost use Rattle.follow_reports.specs.FollowText.{stray_text, strayed_text, times_text, turned_text};
 ghost use Rattle.follow_reports.specs.FollowText.{way_text, why_text};
 ghost use Rattle.sources.specs.Source.{IsSource};
+ghost use Rattle.sources.specs.File.{File};
 
 use bus_ticks::{Class, class_of, narrowest_class};
 use kept_runs::{Access, Stray, Unkept};
@@ -167,7 +168,7 @@ pub(crate) fn line_number_at(
     read: &Source<'_>,
     address: u32,
 ) -> Result<Option<u64>, AllocError>
-    ensures { (source : List ℕ) → IsSource source read.now → IfOk result (IsLineNumberAt source address) }
+    ensures { (source : File) → IsSource source read.now → IfOk result (IsLineNumberAt source address) }
 {
     let lines = read.lines(alloc)?;
     Ok(lines.get(&address).map(|line| line.number as u64))
@@ -175,7 +176,7 @@ pub(crate) fn line_number_at(
 
 /// The line on a run that has gone on at the address, if the source has a word there; else nothing.
 pub(crate) fn left_text(alloc: Global, read: &Source<'_>, at: u32) -> Result<Vec<u8>, AllocError>
-    ensures { (source : List ℕ) → IsSource source read.now
+    ensures { (source : File) → IsSource source read.now
         → IfOk result (λ text. IsLeftText source read.now.image at text.items) }
 {
     if read.image.word_at(at).is_none() {

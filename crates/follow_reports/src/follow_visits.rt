@@ -16,6 +16,7 @@ ghost use Rattle.handlers.specs.Refusal.{ComesAlone, Carries, CarriesOneOf, Carr
 ghost use Rattle.handlers.specs.Refusal.{stop_fault, fault_only};
 ghost use Rattle.handlers.specs.Report.{BeforeOutput, IsRefused};
 ghost use Rattle.sources.specs.Source.{IsSource, Says};
+ghost use Rattle.sources.specs.File.{File, file_of};
 
 use crate::follow::{Judged, states_registers};
 use crate::follow_text::{left_text, line_number_at, strayed_text};
@@ -27,14 +28,14 @@ use handlers::{
 };
 use kept_runs::{VisitUnkept, VisitedHandlers, VisitedRun, arrive, follow_visited};
 use outputs::Output;
-use sources::Source;
+use sources::{Source, SourceFile};
 use std::alloc::{AllocError, Global};
 
 /// A handler, FIQ's, which interrupts it, and a machine whose run through both is judged.
 #[derive(Clone, Copy)]
 pub struct FollowedVisits<'a> {
     /// The bytes of the source of both, a text or an image.
-    pub source: &'a [u8],
+    pub source: SourceFile<'a>,
     /// The text of the statement on the handler.
     pub statement: &'a [u8],
     /// That of the statement on FIQ's handler.
@@ -53,7 +54,7 @@ struct BoundedHandler<'s> {
 // Both handlers, with their source.
 #[derive(Clone, Copy)]
 struct Both<'a> {
-    source: &'a [u8],
+    source: SourceFile<'a>,
     read: &'a Source<'a>,
     irq: &'a BoundedHandler<'a>,
     fiq: &'a BoundedHandler<'a>,
@@ -75,9 +76,9 @@ fn irq_bounded<'s, 'a>(
     statement: &'a [u8],
     profile: &Profile,
 ) -> Result<BoundedHandler<'s>, Stop<'a>>
-    ensures is { (source : List ℕ) → Says source said.now
+    ensures is { (source : File) → Says source said.now
         → IfOk result (IsBoundOf source statement.now profile.now) }
-    ensures fault { (source : List ℕ) → Says source said.now
+    ensures fault { (source : File) → Says source said.now
         → IfErr result (λ s. BeforeOutput (IsRefused source statement.now profile.now) (stop_fault s)) }
     ensures carries { IfErr result (Carries said.now statement.now profile.now) }
 {
@@ -94,10 +95,10 @@ fn fiq_bounded<'s, 'a>(
     statement: &'a [u8],
     profile: &Profile,
 ) -> Result<BoundedHandler<'s>, Stop<'a>>
-    ensures is { (source : List ℕ) → Says source said.now
+    ensures is { (source : File) → Says source said.now
         → IfOk result (IsBoundOf source statement.now profile.now) }
     ensures entry { IfOk result (λ b. b.handler.statement.entry ≡ FIQ_VECTOR) }
-    ensures fault { (source : List ℕ) → Says source said.now
+    ensures fault { (source : File) → Says source said.now
         → IfErr result (λ s. BeforeOutput (IsFiqRefused source statement.now profile.now) (stop_fault s)) }
     ensures carries { IfErr result (Carries said.now statement.now profile.now) }
 {
@@ -124,10 +125,10 @@ fn strayed_run(
     at: u32,
     why: VisitUnkept,
 ) -> Result<Judged, AllocError>
-    requires { IsSource both.source.now both.read.now }
+    requires { IsSource (file_of both.source) both.read.now }
     ensures { IfOk result
         (λ j. (j.kept ≡ false)
-        × ((line : Option ℕ) × IsLineNumberAt both.entry.source.now at line
+        × ((line : Option ℕ) × IsLineNumberAt (file_of both.entry.source) at line
         × (j.text.items
         ≡ strayed_text steps at line (visit_why_text both.entry.irq.now.handler.statement
         both.entry.fiq.now.handler.statement at why)))) }
@@ -145,10 +146,10 @@ fn strayed_run(
 
 // The answer on a run that keeps both statements, as this line says, and has gone on at the address.
 fn kept_run(alloc: Global, both: Both<'_>, line: &str, at: u32) -> Result<Judged, AllocError>
-    requires { IsSource both.source.now both.read.now }
+    requires { IsSource (file_of both.source) both.read.now }
     ensures { IfOk result
         (λ j. (j.kept ≡ true)
-        × ((left : List ℕ) × IsLeftText both.entry.source.now both.entry.read.now.image at left
+        × ((left : List ℕ) × IsLeftText (file_of both.entry.source) both.entry.read.now.image at left
         × (j.text.items ≡ line.now ++ left))) }
 {
     let left = left_text(alloc, both.read, at)?;
@@ -164,10 +165,10 @@ fn run_answer(
     profile: &Profile,
     outcome: Outcome,
 ) -> Result<Judged, AllocError>
-    requires read { IsSource both.source.now both.read.now }
+    requires read { IsSource (file_of both.source) both.read.now }
     requires small { both.fiq.now.bound < 2 ^ 63 }
     ensures { IfOk result
-        (λ j. IsRunText both.entry.source.now both.entry.read.now.image profile.now both.entry.irq.now
+        (λ j. IsRunText (file_of both.entry.source) both.entry.read.now.image profile.now both.entry.irq.now
         both.entry.fiq.now outcome.before outcome.after outcome.run j.kept j.text.items) }
 {
     match outcome.run {
@@ -201,7 +202,7 @@ fn visits_judged(
     profile: &Profile,
     placed: &mut Placed,
 ) -> Result<Judged, ReportFault>
-    requires read { IsSource both.source.now both.read.now }
+    requires read { IsSource (file_of both.source) both.read.now }
     requires irq { IsHandler both.irq.now.handler.image.now both.irq.now.handler.statement
         both.irq.now.handler.graph both.irq.now.handler.tree }
     requires fiq { IsHandler both.fiq.now.handler.image.now both.fiq.now.handler.statement
@@ -210,8 +211,8 @@ fn visits_judged(
     requires machine { IsMachineFor both.irq.now.handler.graph placed.old.machine }
     requires small { both.fiq.now.bound < 2 ^ 63 }
     ensures judged { IfOk result
-        (λ j. IsVisitsJudged both.entry.source.now both.entry.read.now.image profile.now both.entry.irq.now
-        both.entry.fiq.now placed.old.file placed.old.machine j.kept j.text.items) }
+        (λ j. IsVisitsJudged (file_of both.entry.source) both.entry.read.now.image profile.now
+        both.entry.irq.now both.entry.fiq.now placed.old.file placed.old.machine j.kept j.text.items) }
     ensures fault { IfErr result (λ e. e ≡ ReportFault.Memory) }
 {
     let inputs = placed.file.inputs(alloc)?;
@@ -236,10 +237,10 @@ fn machine_run(
     both: Both<'_>,
     profile: &Profile,
 ) -> Result<Judged, ReportFault>
-    requires read { IsSource run.source.now both.read.now }
-    requires source { both.source.now ≡ run.source.now }
-    requires irq { IsBoundOf run.source.now run.statement.now profile.now both.irq.now }
-    requires fiq { IsBoundOf run.source.now run.fiq_statement.now profile.now both.fiq.now }
+    requires read { IsSource (file_of run.source) both.read.now }
+    requires source { (file_of both.source) ≡ (file_of run.source) }
+    requires irq { IsBoundOf (file_of run.source) run.statement.now profile.now both.irq.now }
+    requires fiq { IsBoundOf (file_of run.source) run.fiq_statement.now profile.now both.fiq.now }
     requires entry { both.fiq.now.handler.statement.entry ≡ FIQ_VECTOR }
     ensures judged { IfOk result (λ j. IsVisitsReportOn run.entry profile.now j.kept j.text.items) }
     ensures fault { IfErr result (BeforeOutput (IsVisitsRefusalOf run.entry profile.now)) }
@@ -257,12 +258,12 @@ fn source_run<'a>(
     said: &Source<'_>,
     profile: &Profile,
 ) -> Result<Judged, Stop<'a>>
-    requires { IsSource run.source.now said.now }
+    requires { IsSource (file_of run.source) said.now }
     ensures judged { IfOk result (λ j. IsVisitsReportOn run.entry profile.now j.kept j.text.items) }
     ensures fault { IfErr result
         (λ s. BeforeOutput (IsVisitsRefusalOf run.entry profile.now) (stop_fault s)) }
     ensures carries { IfErr result
-        (CarriesOneOf run.entry.source.now said.now
+        (CarriesOneOf (file_of run.entry.source) said.now
         (run.entry.statement.now ∷ run.entry.fiq_statement.now ∷ []) profile.now) }
 {
     let irq = irq_bounded(alloc, said, run.statement, profile)?;
@@ -284,7 +285,7 @@ fn read_run<'a>(
 ) -> Result<Judged, Refusal<'a>>
     ensures judged { IfOk result (λ j. IsVisitsReportOn run.entry profile.now j.kept j.text.items) }
     ensures fault { IfErr (fault_only result) (BeforeOutput (IsVisitsRefusalOf run.entry profile.now)) }
-    ensures carries { IfErr result (CarriesRead run.entry.source.now
+    ensures carries { IfErr result (CarriesRead (file_of run.entry.source)
         (run.entry.statement.now ∷ run.entry.fiq_statement.now ∷ []) profile.now) }
 {
     let said = read_source(alloc, run.source)?;
@@ -318,10 +319,10 @@ pub fn follow_visits_report<'a, O: Output>(
     out: &mut O,
 ) -> Result<bool, Refusal<'a>>
     ensures answers { Priced (given profile.entry)
-        (λ p. FollowsVisitedRun O.taken O.failures run.entry.source.now run.entry.statement.now
+        (λ p. FollowsVisitedRun O.taken O.failures (file_of run.entry.source) run.entry.statement.now
         run.entry.fiq_statement.now run.entry.machine.now p out.old out.new (fault_only result))
         out.old out.new (fault_only result) }
-    ensures carries { IfErr result (CarriesReadBy (given profile.entry) run.entry.source.now
+    ensures carries { IfErr result (CarriesReadBy (given profile.entry) (file_of run.entry.source)
         (run.entry.statement.now ∷ run.entry.fiq_statement.now ∷ [])) }
 {
     let profile = profile_of(alloc, profile)?;

@@ -7,6 +7,7 @@ ghost use Rattle.kept_runs.specs.Passing.{IsTally, Pass};
 ghost use Rattle.follow_reports.specs.FollowText.{AreWarnings};
 ghost use Rattle.follow_reports.specs.FollowWork.{HasDone, NotesDone};
 ghost use Rattle.sources.specs.Source.{IsSource};
+ghost use Rattle.sources.specs.File.{File};
 
 use control_flow::{Graph, Place};
 use handlers::Handler;
@@ -58,7 +59,7 @@ pub(crate) fn warnings(
 ) -> Result<Vec<u8>, AllocError>
     requires image { handler.now.image.now ≡ read.now.image }
     requires places { length by_place.now ≡ length handler.now.graph.places }
-    ensures { (source : List ℕ) (passes : List Pass) → IsSource source read.now
+    ensures { (source : File) (passes : List Pass) → IsSource source read.now
         → IsTally handler.now.graph passes by_place.now
         → IfOk result
         (λ text. AreWarnings source read.now.image handler.now.statement handler.now.graph passes

@@ -21,11 +21,12 @@ use Rattle.handlers.specs.declared.fault.ReportFault.TheVariants as report_fault
 use Rattle.handlers.specs.declared.refusal.Refusal.{Refusal}
 use Rattle.handlers.proofs.FiqLemmas.{fiq_accepted}
 use Rattle.handlers.proofs.HandlerLemmas.{never_both, one_ok}
+use Rattle.sources.specs.File.{File}
 
 -- ## Two sources
 
 -- two sources that were read share what their words share
-pub shares : (source bytes : List ℕ) (said own : Source) → Says source said → Says bytes own
+pub shares : (source bytes : File) (said own : Source) → Says source said → Says bytes own
     → (shared : Option ℕ) → IsFirstShared said.image own.image shared → SourcesShare source bytes shared
 shares source bytes said own is own_is shared h =
     record {
@@ -38,7 +39,7 @@ shares source bytes said own is own_is shared h =
       shared_is = h;
     }
 
-never_share : (source other : List ℕ) → SourcesShare source other None → (address : ℕ)
+never_share : (source other : File) → SourcesShare source other None → (address : ℕ)
     → SourcesShare source other (Some address) → ⊥
 never_share source other none address some =
     let said : (some.words, some.names) ≡ (none.words, none.names) =
@@ -52,7 +53,7 @@ never_share source other none address some =
     none.shared_is address (subst (λ (w : Words). MeetAt none.words w address) (ap (λ (s : Said). s.0) others)
     here)
 
-module _ (source own fiq : List ℕ) (profile : Profile) where
+module _ (source own : File) (fiq : List ℕ) (profile : Profile) where
   pub meets : (address : ℕ) → SourcesShare source own (Some address)
       → BeforeOutput (IsFiqsRefused source (Some own) fiq profile) (WordsMeet address)
   meets address share = (λ e. cc e, share)
@@ -92,10 +93,22 @@ module _ (source own fiq : List ℕ) (profile : Profile) where
           (source_of own) share.other_is h,
     ),
   )
+  own_unread (report_fault.Dialect f) h = (
+    λ e. cc e,
+    (
+      (
+        h,
+        λ other. never_both (other.words, other.names) (source_fault.Dialect f)
+            (source_of own) other.source_is h,
+      ),
+      λ address share. never_both (share.others, share.other_names) (source_fault.Dialect f)
+          (source_of own) share.other_is h,
+    ),
+  )
   own_unread e h = absurd h
 
 -- what FIQ's accepted handler is refused for
-pub fiqs_refusals : (source : List ℕ) (own : Option (List ℕ)) (fiq : List ℕ) (profile : Profile)
+pub fiqs_refusals : (source : File) (own : Option File) (fiq : List ℕ) (profile : Profile)
     → AreApart source own → (a : IsAccepted (fiq_bytes source own) fiq profile) → a.stated.entry ≡ 0x1C
     → (e : ReportFault) → IsFiqsRefused source own fiq profile e → (e ≡ Memory) ⊎ (e ≡ Device)
 fiqs_refusals source None fiq profile apart a there e r = fiq_accepted source fiq profile a there e r

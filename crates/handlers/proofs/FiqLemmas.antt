@@ -22,8 +22,9 @@ use Rattle.handlers.specs.declared.refusal.Stop.TheVariants as stop
 use Rattle.handlers.proofs.HandlerLemmas.{one_ok, same_statement}
 use Rattle.handlers.proofs.RefusalLemmas.{refused}
 use Rattle.handlers.proofs.ReportLemmas.{accepted_refusals, report_refusal}
+use Rattle.sources.specs.File.{File}
 
-module _ (source fiq : List ℕ) (profile : Profile) where
+module _ (source : File) (fiq : List ℕ) (profile : Profile) where
   -- where its entry is right, or not read, the refusals are those of any handler
   pub fiq_refusal : (e : ReportFault) → (EntersElsewhere source fiq → ⊥)
       → BeforeOutput (IsRefused source fiq profile) e → BeforeOutput (IsFiqRefused source fiq profile) e
@@ -86,7 +87,7 @@ module _ (source fiq : List ℕ) (profile : Profile) where
 
 -- ## Where work on a source stops
 
-module _ (source : Source) (fiq : List ℕ) (profile : Profile) (bytes : List ℕ) (is : Says bytes source) where
+module _ (source : Source) (fiq : List ℕ) (profile : Profile) (bytes : File) (is : Says bytes source) where
   -- after a statement that enters there
   pub fiq_stopped : (s : Stop) → (EntersElsewhere bytes fiq → ⊥) → HasNoHandler source fiq profile s
       → BeforeOutput (IsFiqRefused bytes fiq profile) (stop_fault s)

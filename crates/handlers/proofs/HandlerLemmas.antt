@@ -21,7 +21,8 @@ use Rattle.sources.specs.Source.{Said, source_of}
 use Rattle.sources.specs.declared.fault.SourceFault.TheVariants as source_fault
 use Rattle.handlers.specs.declared.fault.ReportFault.{ReportFault}
 use Rattle.handlers.specs.declared.fault.ReportFault.TheVariants.{Memory, Source, Image, Statement, Graph}
-use Rattle.handlers.specs.declared.fault.ReportFault.TheVariants.{Loops}
+use Rattle.handlers.specs.declared.fault.ReportFault.TheVariants.{Dialect, Loops}
+use Rattle.sources.specs.File.{File}
 
 -- ## A source has one image, a statement one value, and both one graph
 
@@ -43,7 +44,7 @@ pub record AreSame (st su : Stated) (flow other : Flow) : Type 0 where
   pub same_stated : st ≡ su
   pub same_flow : flow ≡ other
 
-pub one_graph : (source statement : List ℕ) (profile : Profile) (st su : Stated) (flow other : Flow)
+pub one_graph : (source : File) (statement : List ℕ) (profile : Profile) (st su : Stated) (flow other : Flow)
     → HasGraph source statement profile st flow → HasGraph source statement profile su other
     → AreSame st su flow other
 one_graph source statement profile st su flow other g h =
@@ -60,7 +61,7 @@ one_graph source statement profile st su flow other g h =
     record { same_stated = sym stated; same_flow = one_flow g.words st profile flow other g.graph_is graph }
 
 -- the words of a source are those of its graph
-pub same_words : (source statement : List ℕ) (profile : Profile) (words : Words) (names : Names) (st : Stated) (flow : Flow) → source_of source ≡ Ok (words, names)
+pub same_words : (source : File) (statement : List ℕ) (profile : Profile) (words : Words) (names : Names) (st : Stated) (flow : Flow) → source_of source ≡ Ok (words, names)
     → (loops : HasLoops source statement profile st flow) → words ≡ loops.graph.words
 same_words source statement profile words names st flow said loops =
     ap (λ (p : Said). p.0) (one_ok (words, names) (loops.graph.words, loops.graph.names) (source_of source) said loops.graph.source_is)
@@ -78,7 +79,7 @@ applies flow loops nest_fault.NestedTooDeep h = h.4
 -- ## Refusals of a source and a statement that have a graph and loops
 
 -- a pair that has a graph is refused up to the loops for lack of memory, or for its loops
-pub graph_refusals : (source statement : List ℕ) (profile : Profile) (st : Stated) (flow : Flow)
+pub graph_refusals : (source : File) (statement : List ℕ) (profile : Profile) (st : Stated) (flow : Flow)
     (e : ReportFault) → HasGraph source statement profile st flow
     → IsHandlerRefused source statement profile e
     → (e ≡ Memory) ⊎ ((f : NestFault) × (e ≡ Loops f))
@@ -88,6 +89,8 @@ graph_refusals source statement profile st flow (Source f) g r =
     absurd (never_both (g.words, g.names) (source_fault.Text f) (source_of source) g.source_is r)
 graph_refusals source statement profile st flow (Image f) g r =
     absurd (never_both (g.words, g.names) (source_fault.Image f) (source_of source) g.source_is r)
+graph_refusals source statement profile st flow (Dialect f) g r =
+    absurd (never_both (g.words, g.names) (source_fault.Dialect f) (source_of source) g.source_is r)
 graph_refusals source statement profile st flow (Statement f) g r =
     let said : (g.words, g.names) ≡ (r.words, r.names) =
     one_ok (g.words, g.names) (r.words, r.names) (source_of source) g.source_is r.source_is in
@@ -107,7 +110,7 @@ graph_refusals source statement profile st flow (Graph f) g r =
 graph_refusals source statement profile st flow e g r = absurd r
 
 -- such a pair is refused up to the loops for lack of memory alone
-pub handler_refusals : (source statement : List ℕ) (profile : Profile) (st : Stated) (flow : Flow)
+pub handler_refusals : (source : File) (statement : List ℕ) (profile : Profile) (st : Stated) (flow : Flow)
     (e : ReportFault) → HasLoops source statement profile st flow
     → IsHandlerRefused source statement profile e
     → e ≡ Memory
@@ -132,9 +135,10 @@ refused_as (Err x) e P h p = subst P (sym h) p
 
 -- ## The faults of the source
 
-pub source_refusal : (source statement : List ℕ) (profile : Profile) (e : ReportFault)
+pub source_refusal : (source : File) (statement : List ℕ) (profile : Profile) (e : ReportFault)
     → IsSourceFault source e → IsHandlerRefused source statement profile e
 source_refusal source statement profile Memory h = tt
 source_refusal source statement profile (Source f) h = h
 source_refusal source statement profile (Image f) h = h
+source_refusal source statement profile (Dialect f) h = h
 source_refusal source statement profile e h = absurd h

@@ -31,7 +31,8 @@ use Rattle.sources.specs.declared.fault.SourceFault.TheVariants as source_fault
 use Rattle.image.specs.Labels.{Names}
 use Rattle.handlers.specs.declared.fault.ReportFault.{ReportFault}
 use Rattle.handlers.specs.declared.fault.ReportFault.TheVariants.{Memory as OfMemory, Source, Image}
-use Rattle.handlers.specs.declared.fault.ReportFault.TheVariants.{MachineFile, Load, Device}
+use Rattle.handlers.specs.declared.fault.ReportFault.TheVariants.{Dialect, MachineFile, Load, Device}
+use Rattle.sources.specs.File.{File}
 
 -- ## A text has one answer
 
@@ -110,7 +111,7 @@ same_memory file c d words h k =
 
 -- ## Refusals
 
-module _ (source machine : List ℕ) (profile : Profile) where
+module _ (source : File) (machine : List ℕ) (profile : Profile) where
   -- two readings of the same texts
   record AreSame (words others : Words) (file other : Stated) : Type 0 where
     same_words : words ≡ others
@@ -135,6 +136,9 @@ module _ (source machine : List ℕ) (profile : Profile) where
   runnable_refusals (Image f) a r =
       absurd (let both : Ok (a.placed.words, a.placed.stated.names) ≡ Err
       (source_fault.Image f) = sym a.placed.stated.source_is ∙ r in cc both)
+  runnable_refusals (Dialect f) a r =
+      absurd (let both : Ok (a.placed.words, a.placed.stated.names) ≡ Err
+      (source_fault.Dialect f) = sym a.placed.stated.source_is ∙ r in cc both)
   runnable_refusals (MachineFile f) a r =
       absurd (let both : Ok a.file ≡ Err f = one_machine_file machine (Ok a.file)
       (Err f) a.placed.stated.file_is r.file_is in cc both)

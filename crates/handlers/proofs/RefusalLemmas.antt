@@ -29,6 +29,7 @@ use Rattle.handlers.specs.declared.refusal.Stop.{Stop}
 use Rattle.handlers.specs.declared.refusal.Stop.TheVariants as stop
 use Rattle.handlers.proofs.AnswerLemmas.{ends_early, ends_printed}
 use Rattle.handlers.proofs.HandlerLemmas.{refused_as}
+use Rattle.sources.specs.File.{File}
 
 -- ## Where there is no handler
 
@@ -41,7 +42,7 @@ module _ (source : Source) (text : List ℕ) (profile : Profile) where
 
   -- loops that are refused have a graph
   pub has_graph : (stated : Stated) (flow : Flow) (fault : NestFault)
-      → CarriesGraph source text profile stated flow fault → (bytes : List ℕ) → Says bytes source
+      → CarriesGraph source text profile stated flow fault → (bytes : File) → Says bytes source
       → HasGraph bytes text profile stated flow
   has_graph stated flow fault h bytes is =
       record {
@@ -53,7 +54,7 @@ module _ (source : Source) (text : List ℕ) (profile : Profile) where
         graph_is = h.graph_is;
       }
 
-  pub refused : (s : Stop) → HasNoHandler source text profile s → (bytes : List ℕ) → Says bytes source
+  pub refused : (s : Stop) → HasNoHandler source text profile s → (bytes : File) → Says bytes source
       → IsHandlerRefused bytes text profile (stop_fault s)
   refused (stop.Alone fault) h bytes is = subst (IsHandlerRefused bytes text profile) (sym h) tt
   refused (stop.Statement own fault) h bytes is =
@@ -113,7 +114,7 @@ module _ {T : Type 0} (q : Result T Refusal) (fault : ReportFault)
   pub alone_err : (P : ReportFault → Type 0) → P fault → IfErr (fault_only q) P
   alone_err P h = refused_as (fault_only q) fault P (only_err q (refusal.Alone fault) is) h
 
-  pub alone_carries : (bytes : List ℕ) (texts : List (List ℕ)) (profile : Profile) → ComesWithoutSource fault
+  pub alone_carries : (bytes : File) (texts : List (List ℕ)) (profile : Profile) → ComesWithoutSource fault
       → IfErr q (CarriesRead bytes texts profile)
   alone_carries bytes texts profile h =
       refused_as q (refusal.Alone fault) (CarriesRead bytes texts profile) is h
@@ -130,11 +131,11 @@ module _ (source : Source) (text : List ℕ) (profile : Profile) where
       → IsErrAnd r (λ x. x ≡ stop.Alone fault) → ComesAlone fault → IfErr r (Carries source text profile)
   stop_carries r fault is h = refused_as r (stop.Alone fault) (Carries source text profile) is h
 
-  pub first_carries : (bytes : List ℕ) (rest : List (List ℕ)) (s : Stop) → Carries source text profile s
+  pub first_carries : (bytes : File) (rest : List (List ℕ)) (s : Stop) → Carries source text profile s
       → CarriesOneOf bytes source (text ∷ rest) profile s
   first_carries bytes rest s h = inl h
 
-  pub second_carries : (bytes first : List ℕ) → IsAccepted bytes first profile → (s : Stop)
+  pub second_carries : (bytes : File) (first : List ℕ) → IsAccepted bytes first profile → (s : Stop)
       → Carries source text profile s → CarriesOneOf bytes source (first ∷ text ∷ []) profile s
   second_carries bytes first accepted s h = inr (accepted, inl h)
 
@@ -162,7 +163,7 @@ module _ {T : Type 0} (source : Source) (r : Result T Stop) (q : Result T Refusa
       err (Ok x) h = tt
       err (Err s) h = h
 
-  pub told_carries : (bytes : List ℕ) (texts : List (List ℕ)) (profile : Profile) → IsSource bytes source
+  pub told_carries : (bytes : File) (texts : List (List ℕ)) (profile : Profile) → IsSource bytes source
       → IfErr r (CarriesOneOf bytes source texts profile) → IfErr q (CarriesRead bytes texts profile)
   told_carries bytes texts profile is h =
       subst (λ (x : Result T Refusal). IfErr x (CarriesRead bytes texts profile)) (sym e) (shows r h)
@@ -173,15 +174,16 @@ module _ {T : Type 0} (source : Source) (r : Result T Stop) (q : Result T Refusa
       shows (Err s) h = (is, h)
 
 -- a fault of the source comes without it
-pub source_alone : (bytes : List ℕ) (fault : ReportFault) → IsSourceFault bytes fault
+pub source_alone : (bytes : File) (fault : ReportFault) → IsSourceFault bytes fault
     → ComesWithoutSource fault
 source_alone bytes report_fault.Memory h = tt
 source_alone bytes (report_fault.Source fault) h = tt
 source_alone bytes (report_fault.Image fault) h = tt
+source_alone bytes (report_fault.Dialect fault) h = tt
 source_alone bytes fault h = absurd h
 
 -- one of a machine comes alone
-pub run_alone : (bytes machine : List ℕ) (profile : Profile) (fault : ReportFault)
+pub run_alone : (bytes : File) (machine : List ℕ) (profile : Profile) (fault : ReportFault)
     → IsRunRefused bytes machine profile fault → ComesAlone fault
 run_alone bytes machine profile (report_fault.Statement fault) h = h
 run_alone bytes machine profile (report_fault.Graph fault) h = h
@@ -199,7 +201,7 @@ module _ {T : Type 0} (profile : Profile) where
 
   -- where work on one source stopped
   pub told_of : (source : Source) (r : Result T Stop) (q : Result T Refusal) → q ≡ with_source source r
-      → (bytes text : List ℕ) → IsSource bytes source → IfErr r (Carries source text profile)
+      → (bytes : File) (text : List ℕ) → IsSource bytes source → IfErr r (Carries source text profile)
       → IfErr q (CarriesReadOf ((bytes, text) ∷ []) profile)
   told_of source r q e bytes text is h =
       subst (λ (x : Result T Refusal). IfErr x (CarriesReadOf ((bytes, text) ∷ []) profile)) (sym e)
@@ -211,7 +213,7 @@ module _ {T : Type 0} (profile : Profile) where
       shows (Err s) h = inl (is, h)
 
 -- after work on another source, which is accepted
-pub then_of : (profile : Profile) (bytes text : List ℕ) (parts : List StatedSource)
+pub then_of : (profile : Profile) (bytes : File) (text : List ℕ) (parts : List StatedSource)
     → IsAccepted bytes text profile → (e : Refusal) → CarriesReadOf parts profile e
     → CarriesReadOf ((bytes, text) ∷ parts) profile e
 then_of profile bytes text parts accepted (refusal.Alone fault) h = h
@@ -239,12 +241,12 @@ module _ {T : Type 0} (file : Option (List ℕ)) (Shows : Profile → Refusal �
         IfErr-weaker q _ _ (λ e d. subst (CarriesBy file Shows) (sym d.0)
         (inl (record { profile = profile; is = is_profile; holds = alone }))) h
 
-pub carries_by : (file : Option (List ℕ)) (bytes : List ℕ) (texts : List (List ℕ)) (profile : Profile)
+pub carries_by : (file : Option (List ℕ)) (bytes : File) (texts : List (List ℕ)) (profile : Profile)
     → IsProfile file profile → (e : Refusal) → CarriesRead bytes texts profile e
     → CarriesReadBy file bytes texts e
 carries_by file bytes texts profile is e h = inl (record { profile = profile; is = is; holds = h })
 
-module _ {T : Type 0} (file : Option (List ℕ)) (bytes : List ℕ) (texts : List (List ℕ))
+module _ {T : Type 0} (file : Option (List ℕ)) (bytes : File) (texts : List (List ℕ))
     (q : Result T Refusal) where
   pub no_profile_carries : (fault : ReportFault) → IsErrAnd q (λ x. x ≡ refusal.Alone fault)
       → HasNoProfile file fault → IfErr q (CarriesReadBy file bytes texts)

@@ -33,11 +33,12 @@ use Rattle.handlers.specs.Report.{IsGreatestWalk, IsHandlerRefused, IsRefused, I
 use Rattle.handlers.specs.declared.fault.ReportFault.{ReportFault}
 use Rattle.handlers.specs.declared.fault.ReportFault.TheVariants.{Memory, Walk, Device}
 use Rattle.handlers.proofs.HandlerLemmas.{handler_refusals, one_graph}
+use Rattle.sources.specs.File.{File}
 
 -- ## Accepted
 
 -- an accepted pair is refused for lack of memory alone, or as the output fails
-pub accepted_refusals : (source statement : List ℕ) (profile : Profile) (e : ReportFault)
+pub accepted_refusals : (source : File) (statement : List ℕ) (profile : Profile) (e : ReportFault)
     → IsAccepted source statement profile → IsRefused source statement profile e
     → (e ≡ Memory) ⊎ (e ≡ Device)
 accepted_refusals source statement profile Memory a r = inl refl
@@ -51,14 +52,14 @@ accepted_refusals source statement profile e a r =
     inl (handler_refusals source statement profile a.stated a.flow e a.loops r)
 
 -- the same of an answer
-pub only_memory : {T : Type 0} (source statement : List ℕ) (profile : Profile) (r : Result T ReportFault)
+pub only_memory : {T : Type 0} (source : File) (statement : List ℕ) (profile : Profile) (r : Result T ReportFault)
     → IfErr r (BeforeOutput (IsRefused source statement profile))
     → IsAccepted source statement profile → IfErr r (λ e. (e ≡ Memory) ⊎ (e ≡ Device))
 only_memory source statement profile (Ok x) h a = tt
 only_memory source statement profile (Err e) h a = accepted_refusals source statement profile e a h.1
 
 -- what refuses a source and a statement up to the loops refuses their report
-pub report_refusal : (source statement : List ℕ) (profile : Profile) (e : ReportFault)
+pub report_refusal : (source : File) (statement : List ℕ) (profile : Profile) (e : ReportFault)
     → IsHandlerRefused source statement profile e → BeforeOutput (IsRefused source statement profile) e
 report_refusal source statement profile Memory h = (λ e. cc e, tt)
 report_refusal source statement profile Device h = absurd h
@@ -168,7 +169,7 @@ longest_by_each flow loops tree other of by l is =
     ))
     l is
 
-module _ (source statement : List ℕ) (profile : Profile) (st : Stated) (flow : Flow) (tree : Tree)
+module _ (source : File) (statement : List ℕ) (profile : Profile) (st : Stated) (flow : Flow) (tree : Tree)
     (loops : HasLoops source statement profile st flow) (of : IsTreeOf flow st.loops tree) where
   -- no refusal of the walk holds
   pub none_holds : ((f : WalkFault) → f ≢ walk_fault.Memory → IsWalkFault flow tree f → ⊥) → (f : WalkFault)

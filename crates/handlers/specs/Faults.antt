@@ -33,6 +33,7 @@ abbrev pub of_source : SourceFault → ReportFault
 of_source source_fault.Memory = Memory
 of_source (source_fault.Text fault) = Source fault
 of_source (source_fault.Image fault) = Image fault
+of_source (source_fault.Dialect fault) = Dialect fault
 
 abbrev pub of_text : AsmFault → ReportFault
 of_text asm_fault.Memory = Memory

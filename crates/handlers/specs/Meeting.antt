@@ -3,6 +3,7 @@ use Rattle.std.specs.Prelude.{◌≡◌, ℕ, ◌≤◌, List, Option, Some, Non
 use Rattle.image.specs.Image.{Words, word_of}
 use Rattle.image.specs.Labels.{Names}
 use Rattle.sources.specs.Source.{source_of}
+use Rattle.sources.specs.File.{File}
 
 -- ## Words
 
@@ -19,7 +20,7 @@ IsFirstShared words others None = (address : ℕ) → MeetAt words others addres
 -- ## Sources
 
 -- two sources have words, and share this address first, or none
-pub record SourcesShare (source other : List ℕ) (shared : Option ℕ) : Type 0 where
+pub record SourcesShare (source other : File) (shared : Option ℕ) : Type 0 where
   pub words : Words
   pub names : Names
   pub others : Words

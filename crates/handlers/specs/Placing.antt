@@ -19,18 +19,19 @@ use Rattle.handlers.specs.Source.{IsSourceFault}
 use Rattle.handlers.specs.declared.fault.ReportFault.{ReportFault}
 use Rattle.handlers.specs.declared.fault.ReportFault.TheVariants as report_fault
 use Rattle.sources.specs.Source.{source_of}
+use Rattle.sources.specs.File.{File}
 
 -- ## The machine
 
 -- the words of a source, and what a machine file states
-pub record IsStated (source machine : List ℕ) (words : Words) (file : Stated) : Type 0 where
+pub record IsStated (source : File) (machine : List ℕ) (words : Words) (file : Stated) : Type 0 where
   pub names : Names
   pub source_is : source_of source ≡ Ok (words, names)
   pub file_is : IsMachineFile machine (Ok file)
 
 -- the machine before its first step: the one that the file states, in which no word of the image or of the
 -- file lacks a page, with the words of the image put in, and then those of the file
-pub record IsPlaced (source machine : List ℕ) (profile : Profile) (file : Stated)
+pub record IsPlaced (source : File) (machine : List ℕ) (profile : Profile) (file : Stated)
     (state : State) : Type 0 where
   pub words : Words
   pub start : State
@@ -41,7 +42,7 @@ pub record IsPlaced (source machine : List ℕ) (profile : Profile) (file : Stat
   pub loaded : state ≡ put_words file.words (put_words words start)
 
 -- the same, and the inputs of its steps
-pub record IsLoaded (source machine : List ℕ) (profile : Profile) (state : State)
+pub record IsLoaded (source : File) (machine : List ℕ) (profile : Profile) (state : State)
     (inputs : List Input) : Type 0 where
   pub file : Stated
   pub placed : IsPlaced source machine profile file state
@@ -50,13 +51,13 @@ pub record IsLoaded (source machine : List ℕ) (profile : Profile) (state : Sta
 -- ## Refusals
 
 -- both texts can be read, and the machine can be loaded
-pub record IsRunnable (source machine : List ℕ) (profile : Profile) : Type 0 where
+pub record IsRunnable (source : File) (machine : List ℕ) (profile : Profile) : Type 0 where
   pub file : Stated
   pub state : State
   pub placed : IsPlaced source machine profile file state
 
 -- a fault of the machine file, of a source that has an image
-pub record IsFileRefused (source machine : List ℕ) (fault : MachineFileFault) : Type 0 where
+pub record IsFileRefused (source : File) (machine : List ℕ) (fault : MachineFileFault) : Type 0 where
   pub words : Words
   pub names : Names
   pub source_is : source_of source ≡ Ok (words, names)
@@ -68,7 +69,8 @@ abbrev pub LacksPage : State → Words → Stated → Type 0
 LacksPage start words file =
     (lacks_page start.bus.memc words ≡ true) ⊎ (lacks_page start.bus.memc file.words ≡ true)
 
-pub record IsLoadRefused (source machine : List ℕ) (profile : Profile) (fault : LoadFault) : Type 0 where
+pub record IsLoadRefused (source : File) (machine : List ℕ) (profile : Profile)
+    (fault : LoadFault) : Type 0 where
   pub words : Words
   pub file : Stated
   pub start : State
@@ -78,7 +80,7 @@ pub record IsLoadRefused (source machine : List ℕ) (profile : Profile) (fault 
   pub lacks : LacksPage start words file
 
 -- when each refusal is answered: the first in the order of the work. An output may fail whatever the texts
-abbrev pub IsRunRefused : List ℕ → List ℕ → Profile → ReportFault → Type 0
+abbrev pub IsRunRefused : File → List ℕ → Profile → ReportFault → Type 0
 IsRunRefused source machine profile report_fault.Device = Unit {0}
 IsRunRefused source machine profile (report_fault.MachineFile fault) = IsFileRefused source machine fault
 IsRunRefused source machine profile (report_fault.Load fault) = IsLoadRefused source machine profile fault

@@ -23,6 +23,7 @@ use Rattle.handlers.specs.declared.refusal.Stop.{Stop}
 use Rattle.handlers.specs.declared.refusal.Stop.TheVariants as stop
 use Rattle.handlers.specs.declared.refusal.Refusal.{Refusal}
 use Rattle.handlers.specs.declared.refusal.Refusal.TheVariants as refusal
+use Rattle.sources.specs.File.{File}
 
 -- ## The faults, without the rest
 
@@ -61,6 +62,7 @@ ComesWithoutSource report_fault.Memory = Unit {0}
 ComesWithoutSource report_fault.Device = Unit {0}
 ComesWithoutSource (report_fault.Source fault) = Unit {0}
 ComesWithoutSource (report_fault.Image fault) = Unit {0}
+ComesWithoutSource (report_fault.Dialect fault) = Unit {0}
 ComesWithoutSource fault = ⊥
 
 -- of a source that was read, and the text of a statement on it
@@ -111,7 +113,7 @@ module _ (source : Source) (text : List ℕ) where
 
 -- what work on a source with several statements carries: it is of one of them, and those before it are
 -- accepted
-abbrev pub CarriesOneOf : (bytes : List ℕ) → Source → (texts : List (List ℕ)) → Profile → Stop → Type 0
+abbrev pub CarriesOneOf : (bytes : File) → Source → (texts : List (List ℕ)) → Profile → Stop → Type 0
 CarriesOneOf bytes source [] profile stopped = ⊥
 CarriesOneOf bytes source (text ∷ texts) profile stopped =
     Carries source text profile stopped
@@ -119,7 +121,7 @@ CarriesOneOf bytes source (text ∷ texts) profile stopped =
 
 -- what a refusal of a source's bytes and of statements on it carries: the source that the bytes say, and what
 -- work on it does
-abbrev pub CarriesRead : (bytes : List ℕ) → (texts : List (List ℕ)) → Profile → Refusal → Type 0
+abbrev pub CarriesRead : (bytes : File) → (texts : List (List ℕ)) → Profile → Refusal → Type 0
 CarriesRead bytes texts profile (refusal.Alone fault) = ComesWithoutSource fault
 CarriesRead bytes texts profile (refusal.OnSource source stopped) =
     IsSource bytes source × CarriesOneOf bytes source texts profile stopped
@@ -131,14 +133,14 @@ CarriesBy file CarriesPriced refused =
     ByProfile file (λ profile. CarriesPriced profile refused)
     ⊎ ((fault : ReportFault) × (refused ≡ refusal.Alone fault) × HasNoProfile file fault)
 
-abbrev pub CarriesReadBy : Option (List ℕ) → (bytes : List ℕ) → (texts : List (List ℕ)) → Refusal → Type 0
+abbrev pub CarriesReadBy : Option (List ℕ) → (bytes : File) → (texts : List (List ℕ)) → Refusal → Type 0
 CarriesReadBy file bytes texts refused = CarriesBy file (CarriesRead bytes texts) refused
 
 -- ## Of several sources
 
 -- the bytes of a source, and the text of a statement on it
 abbrev pub StatedSource : Type 0
-StatedSource = List ℕ × List ℕ
+StatedSource = File × List ℕ
 
 -- what work on one source after another carries where it stops: the source that the bytes of one say, and
 -- what work on it does; those before it are accepted

@@ -37,6 +37,7 @@ use Rattle.handlers.specs.declared.fault.ReportFault.{ReportFault}
 use Rattle.handlers.specs.declared.fault.ReportFault.TheVariants as report_fault
 use Rattle.sources.specs.Source.{Says, source_of}
 use Rattle.sources.specs.declared.read.Source.{Source}
+use Rattle.sources.specs.File.{File}
 
 -- the bound is the greatest cost, and the items unfold to a complete walk of that cost that keeps the bounds
 pub record IsGreatestWalk (flow : Flow) (loops : StatedLoops) (bound : ℕ) (items : List Item) : Type 0 where
@@ -55,7 +56,7 @@ IsWalkRefusal flow loops walk_fault.BoundTooLarge =
 
 -- the source has an image, the statement a value by the source's labels, no refusal of a graph holds, and
 -- this is the graph
-pub record HasGraph (source statement : List ℕ) (profile : Profile) (stated : Stated)
+pub record HasGraph (source : File) (statement : List ℕ) (profile : Profile) (stated : Stated)
     (flow : Flow) : Type 0 where
   pub words : Words
   pub names : Names
@@ -65,34 +66,34 @@ pub record HasGraph (source statement : List ℕ) (profile : Profile) (stated : 
   pub graph_is : IsFlowGraph words stated profile flow
 
 -- and no refusal of the loops holds
-pub record HasLoops (source statement : List ℕ) (profile : Profile) (stated : Stated)
+pub record HasLoops (source : File) (statement : List ℕ) (profile : Profile) (stated : Stated)
     (flow : Flow) : Type 0 where
   pub graph : HasGraph source statement profile stated flow
   pub no_fault : (f : NestFault) → f ≢ nest_fault.Memory → Applies flow stated.loops f → ⊥
 
 -- it holds of each source, statement and profile that have this handler
-abbrev pub OfHandler : Handler → (List ℕ → List ℕ → Profile → Type 0) → Type 0
+abbrev pub OfHandler : Handler → (File → List ℕ → Profile → Type 0) → Type 0
 OfHandler handler Holds =
-    (source statement : List ℕ) (profile : Profile)
+    (source : File) (statement : List ℕ) (profile : Profile)
     → HasLoops source statement profile handler.statement handler.graph → Holds source statement profile
 
 -- it is the handler of each source that says this, and of the statement
 pub record IsHandlerOf (said : Source) (statement : List ℕ) (profile : Profile)
     (handler : Handler) : Type 0 where
   pub image : handler.image.now ≡ said.image
-  pub loops : (source : List ℕ) → Says source said
+  pub loops : (source : File) → Says source said
       → HasLoops source statement profile handler.statement handler.graph
   pub tree : HasItsTree handler
 
 -- and none of the walk
-pub record IsAccepted (source statement : List ℕ) (profile : Profile) : Type 0 where
+pub record IsAccepted (source : File) (statement : List ℕ) (profile : Profile) : Type 0 where
   pub stated : Stated
   pub flow : Flow
   pub loops : HasLoops source statement profile stated flow
   pub no_fault : (f : WalkFault) → f ≢ walk_fault.Memory → IsWalkRefusal flow stated.loops f → ⊥
 
 -- an accepted source and statement, with a tree of its loops and a greatest walk by it
-pub record IsBounded (source statement : List ℕ) (profile : Profile) : Type 0 where
+pub record IsBounded (source : File) (statement : List ℕ) (profile : Profile) : Type 0 where
   pub accepted : IsAccepted source statement profile
   pub tree : Tree
   pub longest : Longest
@@ -102,7 +103,7 @@ pub record IsBounded (source statement : List ℕ) (profile : Profile) : Type 0 
 
 -- A report, the certificate of a greatest walk: each certificate that says the same is judged Yes by each
 -- tree of the loops, and every machine run that keeps the statement takes at most the bound.
-pub record IsReport (source statement : List ℕ) (profile : Profile) (text : List ℕ) : Type 0 where
+pub record IsReport (source : File) (statement : List ℕ) (profile : Profile) (text : List ℕ) : Type 0 where
   pub bounded : IsBounded source statement profile
   pub judged : (other : Tree) → IsTreeOf bounded.accepted.flow bounded.accepted.stated.loops other
       → (cert : Cert) → said_by cert ≡ said_of bounded.longest
@@ -113,14 +114,14 @@ pub record IsReport (source statement : List ℕ) (profile : Profile) (text : Li
   pub spelled : text ≡ cert_text (said_of bounded.longest)
 
 -- a report of this statement and with this bound, in ticks
-pub record IsBoundReport (source statement : List ℕ) (profile : Profile) (stated : Stated) (bound : ℕ)
-    (text : List ℕ) : Type 0 where
+pub record IsBoundReport (source : File) (statement : List ℕ) (profile : Profile) (stated : Stated)
+    (bound : ℕ) (text : List ℕ) : Type 0 where
   pub report : IsReport source statement profile text
   pub stated_is : report.bounded.accepted.stated ≡ stated
   pub bound_is : report.bounded.longest.bound ≡ bound
 
 -- a fault of the statement, of a source that has an image
-pub record IsStatementRefused (source statement : List ℕ) (fault : StatementFault) : Type 0 where
+pub record IsStatementRefused (source : File) (statement : List ℕ) (fault : StatementFault) : Type 0 where
   pub words : Words
   pub names : Names
   pub source_is : source_of source ≡ Ok (words, names)
@@ -128,7 +129,8 @@ pub record IsStatementRefused (source statement : List ℕ) (fault : StatementFa
   pub statement_is : IsStatement statement names (Err fault)
 
 -- a fault of the graph, of a source and a statement that can be read
-pub record IsGraphRefused (source statement : List ℕ) (profile : Profile) (fault : BuildFault) : Type 0 where
+pub record IsGraphRefused (source : File) (statement : List ℕ) (profile : Profile)
+    (fault : BuildFault) : Type 0 where
   pub words : Words
   pub names : Names
   pub stated : Stated
@@ -138,7 +140,8 @@ pub record IsGraphRefused (source statement : List ℕ) (profile : Profile) (fau
   pub holds : IsBuildFault words stated profile fault
 
 -- a fault of the loops, of a graph
-pub record AreLoopsRefused (source statement : List ℕ) (profile : Profile) (fault : NestFault) : Type 0 where
+pub record AreLoopsRefused (source : File) (statement : List ℕ) (profile : Profile)
+    (fault : NestFault) : Type 0 where
   pub stated : Stated
   pub flow : Flow
   pub graph : HasGraph source statement profile stated flow
@@ -146,7 +149,8 @@ pub record AreLoopsRefused (source statement : List ℕ) (profile : Profile) (fa
   pub holds : IsNestFault flow stated.loops fault
 
 -- a fault of the walk, of a graph and its loops
-pub record IsWalkRefused (source statement : List ℕ) (profile : Profile) (fault : WalkFault) : Type 0 where
+pub record IsWalkRefused (source : File) (statement : List ℕ) (profile : Profile)
+    (fault : WalkFault) : Type 0 where
   pub stated : Stated
   pub flow : Flow
   pub loops : HasLoops source statement profile stated flow
@@ -155,7 +159,7 @@ pub record IsWalkRefused (source statement : List ℕ) (profile : Profile) (faul
 
 -- when each refusal of a source and a statement is answered, up to the loops: the first in the order of the
 -- work
-abbrev pub IsHandlerRefused : List ℕ → List ℕ → Profile → ReportFault → Type 0
+abbrev pub IsHandlerRefused : File → List ℕ → Profile → ReportFault → Type 0
 IsHandlerRefused source statement profile (report_fault.Statement fault) =
     IsStatementRefused source statement fault
 IsHandlerRefused source statement profile (report_fault.Graph fault) =
@@ -165,7 +169,7 @@ IsHandlerRefused source statement profile (report_fault.Loops fault) =
 IsHandlerRefused source statement profile fault = IsSourceFault source fault
 
 -- when each refusal of a report is answered; an output fails whatever the source and the statement
-abbrev pub IsRefused : List ℕ → List ℕ → Profile → ReportFault → Type 0
+abbrev pub IsRefused : File → List ℕ → Profile → ReportFault → Type 0
 IsRefused source statement profile (report_fault.Walk fault) = IsWalkRefused source statement profile fault
 IsRefused source statement profile report_fault.Device = Unit {0}
 IsRefused source statement profile fault = IsHandlerRefused source statement profile fault

@@ -8,12 +8,13 @@ ghost use Rattle.handlers.specs.Refusal.{CarriesReadOf, fault_only};
 ghost use Rattle.handlers.specs.Report.{BeforeOutput};
 ghost use Rattle.handlers.specs.VisitStops.{refused_on};
 ghost use Rattle.sources.specs.Source.{IsSource, Says};
+ghost use Rattle.sources.specs.File.{File, file_of};
 
 use crate::fault::ReportFault;
 use crate::handler::read_source;
 use crate::meeting::first_shared;
 use crate::refusal::{Refusal, Stop};
-use sources::Source;
+use sources::{Source, SourceFile};
 use std::alloc::{AllocError, Global};
 
 /// Where the work on a handler and on FIQ's, which visits it, has stopped.
@@ -91,15 +92,16 @@ pub fn refused_on<'a, T: Drop>(
 pub fn read_apart<'a>(
     alloc: Global,
     said: &Source<'_>,
-    own: &'a [u8],
+    own: SourceFile<'a>,
 ) -> Result<Source<'a>, Refusal<'a>>
-    ensures is { IfOk result (IsSource own.now) }
-    ensures apart { (source : List ℕ) → Says source said.now
-        → OnOk result (SourcesShare source own.now None) }
-    ensures fault { (source fiq : List ℕ) (profile : Profile) → Says source said.now
-        → IfErr (fault_only result) (BeforeOutput (IsFiqsRefused source (Some own.now) fiq profile)) }
+    ensures is { IfOk result (IsSource (file_of own.entry)) }
+    ensures apart { (source : File) → Says source said.now
+        → OnOk result (SourcesShare source (file_of own.entry) None) }
+    ensures fault { (source : File) (fiq : List ℕ) (profile : Profile) → Says source said.now
+        → IfErr (fault_only result) (BeforeOutput
+        (IsFiqsRefused source (Some (file_of own.entry)) fiq profile)) }
     ensures carries { (fiq : List ℕ) (profile : Profile)
-        → IfErr result (CarriesReadOf ((own.now, fiq) ∷ []) profile) }
+        → IfErr result (CarriesReadOf ((file_of own.entry, fiq) ∷ []) profile) }
 {
     let read = read_source(alloc, own)?;
     match first_shared(&said.image, &read.image) {

@@ -77,7 +77,7 @@ pub enum ReportFault {
     /// The file of facts cannot be read.
     #[error("{0}")]
     Given(GivenFault),
-    /// The source in ObjAsm's dialect cannot be translated.
+    /// The source is in ObjAsm's dialect and cannot be translated.
     #[error("{0}")]
     Dialect(DialectFault),
 }

@@ -3,6 +3,7 @@ ghost use Rattle.handlers.specs.FiqHandler.{IsFiqRefused};
 ghost use Rattle.handlers.specs.Refusal.{Carries, stop_fault};
 ghost use Rattle.handlers.specs.Report.{BeforeOutput, IsHandlerOf};
 ghost use Rattle.sources.specs.Source.{Says};
+ghost use Rattle.sources.specs.File.{File};
 
 use crate::fault::ReportFault;
 use crate::handler::{stated_handler, stated_on};
@@ -26,7 +27,7 @@ pub fn fiq_handler<'s, 'a>(
 ) -> Result<Handler<'s>, Stop<'a>>
     ensures is { IfOk result (IsHandlerOf source.now text.now profile.now) }
     ensures entry { IfOk result (λ h. h.statement.entry ≡ FIQ_VECTOR) }
-    ensures fault { (bytes : List ℕ) → Says bytes source.now
+    ensures fault { (bytes : File) → Says bytes source.now
         → IfErr result (λ s. BeforeOutput (IsFiqRefused bytes text.now profile.now) (stop_fault s)) }
     ensures carries { IfErr result (Carries source.now text.now profile.now) }
 {

@@ -12,6 +12,7 @@ ghost use Rattle.handlers.specs.Report.{BeforeOutput, IsHandlerOf};
 ghost use Rattle.handlers.specs.Report.{IsHandlerRefused, IsRefused, OfHandler};
 ghost use Rattle.handlers.specs.Source.{IsSourceFault};
 ghost use Rattle.sources.specs.Source.{IsSource, Says};
+ghost use Rattle.sources.specs.File.{File, file_of};
 
 use crate::fault::ReportFault;
 use crate::refusal::Stop;
@@ -20,7 +21,7 @@ use control_flow::{BuildFault, build};
 use longest_walk::{Longest, longest};
 use loop_bounds::{Handler, NestFault, nest};
 use machine_file::read_profile;
-use sources::Source;
+use sources::{Source, SourceFile};
 use statement::{Statement, StatementFault, read_statement};
 use std::alloc::Global;
 
@@ -47,9 +48,9 @@ pub fn profile_of(alloc: Global, file: Option<&[u8]>) -> Result<Profile, ReportF
 /// # Errors
 ///
 /// `Source`, with its line, of a text; `Image` of an image. `Memory`: an allocation failed.
-pub fn read_source<'a>(alloc: Global, source: &'a [u8]) -> Result<Source<'a>, ReportFault>
-    ensures is { IfOk result (IsSource source.now) }
-    ensures fault { IfErr result (IsSourceFault source.now) }
+pub fn read_source<'a>(alloc: Global, source: SourceFile<'a>) -> Result<Source<'a>, ReportFault>
+    ensures is { IfOk result (IsSource (file_of source.entry)) }
+    ensures fault { IfErr result (IsSourceFault (file_of source.entry)) }
 {
     let read = Source::read(alloc, source)?;
     Ok(read)
@@ -87,7 +88,7 @@ pub fn read_handler<'s, 'a>(
     profile: &Profile,
 ) -> Result<Handler<'s>, Stop<'a>>
     ensures is { IfOk result (IsHandlerOf source.now text.now profile.now) }
-    ensures fault { (bytes : List ℕ) → Says bytes source.now
+    ensures fault { (bytes : File) → Says bytes source.now
         → IfErr result (λ s. IsHandlerRefused bytes text.now profile.now (stop_fault s)) }
     ensures stops { IfErr result (HasNoHandler source.now text.now profile.now) }
     ensures carries { IfErr result (Carries source.now text.now profile.now) }

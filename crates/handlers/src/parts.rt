@@ -39,6 +39,7 @@ impl From<SourceFault> for ReportFault {
             SourceFault::Memory => ReportFault::Memory,
             SourceFault::Text(fault) => ReportFault::Source(fault),
             SourceFault::Image(fault) => ReportFault::Image(fault),
+            SourceFault::Dialect(fault) => ReportFault::Dialect(fault),
         }
     }
 }

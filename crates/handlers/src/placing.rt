@@ -4,6 +4,7 @@ ghost use Rattle.loader.specs.Loading.{lacks_page, put_words};
 ghost use Rattle.handlers.specs.Placing.{IsPlaced, IsRunRefused, IsRunnable, IsStated, LacksPage};
 ghost use Rattle.handlers.specs.Report.{BeforeOutput};
 ghost use Rattle.sources.specs.Source.{Says};
+ghost use Rattle.sources.specs.File.{File, file_of};
 
 use crate::fault::ReportFault;
 use crate::handler::read_source;
@@ -12,7 +13,7 @@ use bus_ticks::Profile;
 use image::Image;
 use loader::{LoadFault, load, put_words};
 use machine_file::{MachineFile, read_machine};
-use sources::Source;
+use sources::{Source, SourceFile};
 use std::alloc::Global;
 
 /// A machine with all its words, before its first step, and the file that states it.
@@ -29,13 +30,14 @@ pub struct Placed {
 /// The first in the order of the work: source, machine file, load. `Memory`: an allocation failed.
 pub fn place(
     alloc: Global,
-    source: &[u8],
+    source: SourceFile<'_>,
     machine: &[u8],
     profile: Profile,
 ) -> Result<Placed, ReportFault>
-    ensures placed { IfOk result (λ p. IsPlaced source.now machine.now profile p.file p.machine) }
-    ensures fault { IfErr result (BeforeOutput (IsRunRefused source.now machine.now profile)) }
-    ensures only { IsRunnable source.now machine.now profile → IfErr result (λ e. e ≡ ReportFault.Memory) }
+    ensures placed { IfOk result (λ p. IsPlaced (file_of source.entry) machine.now profile p.file p.machine) }
+    ensures fault { IfErr result (BeforeOutput (IsRunRefused (file_of source.entry) machine.now profile)) }
+    ensures only { IsRunnable (file_of source.entry) machine.now profile → IfErr result
+        (λ e. e ≡ ReportFault.Memory) }
 {
     let said = read_source(alloc, source)?;
     place_image(alloc, &said, machine, profile)
@@ -52,9 +54,9 @@ pub fn place_image(
     machine: &[u8],
     profile: Profile,
 ) -> Result<Placed, ReportFault>
-    ensures placed { (source : List ℕ) → Says source said.now
+    ensures placed { (source : File) → Says source said.now
         → IfOk result (λ p. IsPlaced source machine.now profile p.file p.machine) }
-    ensures fault { (source : List ℕ) → Says source said.now
+    ensures fault { (source : File) → Says source said.now
         → IfErr result (BeforeOutput (IsRunRefused source machine.now profile)) }
 {
     let file = read_machine(alloc, machine)?;
@@ -87,9 +89,9 @@ fn loaded(
     file: &MachineFile,
     profile: Profile,
 ) -> Result<Machine, ReportFault>
-    ensures loaded { (source machine : List ℕ) → IsStated source machine image.now file.now
+    ensures loaded { (source : File) (machine : List ℕ) → IsStated source machine image.now file.now
         → IfOk result (λ m. IsPlaced source machine profile file.now m) }
-    ensures fault { (source machine : List ℕ) → IsStated source machine image.now file.now
+    ensures fault { (source : File) (machine : List ℕ) → IsStated source machine image.now file.now
         → IfErr result (BeforeOutput (IsRunRefused source machine profile)) }
 {
     let mut machine = file.machine(alloc, profile)?;

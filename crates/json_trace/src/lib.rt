@@ -11,7 +11,8 @@ mod values;
 
 pub use law::texts_need_no_escape;
 pub use moved_words::Transfers;
-pub use registers::{Words, words_of};
+pub use registers::{Words, bank_suffix, words_of};
 pub use run::{put_end, step_recorded, write_records};
 pub use step_line::{StepRecord, put_step};
-pub use transfers::planned;
+pub use transfers::{memory_word, planned, planned_by, transfer_kind, word_place};
+pub use values::{boolean, flags_text, mode_name};

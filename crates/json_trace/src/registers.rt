@@ -48,8 +48,8 @@ pub fn words_of(registers: &Registers) -> Words
     ]
 }
 
-// What ends the names of the registers of a mode's own bank.
-fn bank_suffix(mode: Mode) -> &'static str
+/// What ends the names of the registers of a mode's own bank.
+pub fn bank_suffix(mode: Mode) -> &'static str
     ensures { result.now ≡ bank_suffix mode }
 {
     match mode {

@@ -1,6 +1,6 @@
 //! The words that a step moves between registers and memory.
 
-ghost use Rattle.std.specs.Prelude.{◌≡◌, ◌<◌, ◌≤◌, ◌++◌, OnOk, map, string_bytes};
+ghost use Rattle.std.specs.Prelude.{◌≡◌, ◌<◌, ◌≤◌, ◌++◌, IfSome, OnOk, map, string_bytes};
 ghost use Rattle.bus_ticks.specs.Prices.{word_address};
 ghost use Rattle.arm2_exec.specs.Step.{Step};
 ghost use Rattle.arm2_exec.specs.State.{State};
@@ -25,7 +25,8 @@ use std::fmt::Write;
 
 // So many words at an address; none at one of 2^26 or more.
 fn words_at(store: bool, address: u32, words: u32) -> Option<Transfers>
-    ensures { result ≡ words_in_space store address words }
+    ensures words { result ≡ words_in_space store address words }
+    ensures few { words ≤ 16 → IfSome result (λ t. t.words ≤ 16) }
 {
     if address >= SPACE_END {
         return None;
@@ -37,9 +38,10 @@ fn words_at(store: bool, address: u32, words: u32) -> Option<Transfers>
     })
 }
 
-// What an instruction moves, if it is carried out and no word is refused.
-fn planned_by(operation: &Operation, registers: &Registers) -> Option<Transfers>
-    ensures { result ≡ planned_by operation.now registers.now }
+/// What an instruction moves, if it is carried out and no word is refused.
+pub fn planned_by(operation: &Operation, registers: &Registers) -> Option<Transfers>
+    ensures words { result ≡ planned_by operation.now registers.now }
+    ensures few { IfSome result (λ t. t.words ≤ 16) }
 {
     match operation {
         Operation::SingleImmediate(x) => {
@@ -83,8 +85,8 @@ pub fn planned(machine: &Machine) -> Option<Transfers>
     }
 }
 
-// The word of RAM or ROM to which a privileged load or store at an address goes.
-fn memory_word(memc: &Memc, store: bool, address: u32) -> Option<u32>
+/// The word of RAM or ROM to which a privileged load or store at an address goes.
+pub fn memory_word(memc: &Memc, store: bool, address: u32) -> Option<u32>
     requires { address < SPACE_END }
     ensures { result ≡ memory_word memc.now store address }
 {
@@ -94,7 +96,8 @@ fn memory_word(memc: &Memc, store: bool, address: u32) -> Option<u32>
     }
 }
 
-fn transfer_kind(store: bool) -> &'static str
+/// `store` or `load`.
+pub fn transfer_kind(store: bool) -> &'static str
     ensures { result.now ≡ transfer_kind store }
 {
     match store {
@@ -145,8 +148,8 @@ fn put_comma(out: &mut String, number: u32) -> Result<(), AllocError>
     }
 }
 
-// The address of a word of a transfer.
-fn word_place(address: u32, number: u32) -> u32
+/// The address of a word of a transfer.
+pub fn word_place(address: u32, number: u32) -> u32
     ensures place { result ≡ word_address address number }
     ensures below { result < SPACE_END }
 {

@@ -25,7 +25,7 @@ pub(crate) const NAME_ROOM: usize = 18;
 pub(crate) const TEXT_ROOM: usize = WORD_LINE_ROOM + 2;
 
 /// `true` or `false`.
-pub(crate) fn boolean(is_set: bool) -> &'static str
+pub fn boolean(is_set: bool) -> &'static str
     ensures { result.now ≡ boolean is_set }
 {
     match is_set {
@@ -155,7 +155,7 @@ fn flag_letter(r15: u32, bit: u32, clear: u8) -> u8
 }
 
 /// N, Z, C, V, I and F, each as a capital where it is set.
-pub(crate) fn flags_text(r15: u32) -> ArrayString<6>
+pub fn flags_text(r15: u32) -> ArrayString<6>
     ensures { result.bytes ≡ flags_text r15 }
 {
     let letters = [
@@ -173,7 +173,7 @@ pub(crate) fn flags_text(r15: u32) -> ArrayString<6>
 }
 
 /// The name of a mode.
-pub(crate) fn mode_name(mode: Mode) -> &'static str
+pub fn mode_name(mode: Mode) -> &'static str
     ensures { result.now ≡ mode_name mode }
 {
     match mode {

@@ -37,6 +37,7 @@ use Rattle.justify_reports.specs.JustifyReport.{IsJustifyReport, IsJustifyText, 
 use Rattle.justify_reports.specs.Rows.{AreStatedRows}
 use Rattle.justify_reports.specs.Trust.{BoundsOnTrust, IsJustified, KeepsOnTrust}
 use Rattle.justify_reports.specs.declared.rows.Row.{Row}
+use Rattle.sources.specs.File.{File}
 
 -- ## The laws
 
@@ -95,7 +96,7 @@ is_justified words st profile flow given None bound same follows bounds = record
 is_justified words st profile flow given (Some trusted) bound same follows bounds =
     record { follows = follows; bounds = bounded_on_trust words st profile flow given trusted bound same follows bounds }
 
-module _ (source statement : List ℕ) (profile : Profile) (read : Source) (is_read : IsSource source read) (st : Stated) (flow : Flow) (tree : Tree)
+module _ (source : File) (statement : List ℕ) (profile : Profile) (read : Source) (is_read : IsSource source read) (st : Stated) (flow : Flow) (tree : Tree)
     (loops : HasLoops source statement profile st flow) where
   pub own_words : loops.graph.words ≡ read.image
   own_words = sym (same_words source statement profile read.image (address_of read.labels) st flow is_read.said loops)

@@ -18,6 +18,7 @@ use Rattle.justify_reports.specs.RowTexts.{AreRowTexts}
 use Rattle.justify_reports.specs.Summary.{AreFactRows, false_count, follows_count, summary_text}
 use Rattle.justify_reports.specs.Trust.{IsJustified}
 use Rattle.justify_reports.specs.declared.rows.Row.{Row}
+use Rattle.sources.specs.File.{File}
 
 -- the facts, a row for each entry, and what they say together
 pub record IsJustifyText (read : Source) (given : List Given) (left : Option OnTrust) (rows : List Row)
@@ -35,8 +36,8 @@ is_enough all rows = (false_count rows == 0) && (not all || (follows_count rows 
 -- Of an accepted source and statement: what is left on trust, where each other entry is proved to follow; where
 -- the words go that return or leave, which words go outside of their classes, and which loops no run leaves; the
 -- rows that say so, and the bound of each run that keeps what is on trust.
-pub record IsJustifyReport (source statement : List ℕ) (given : List Given) (all : Bool) (profile : Profile)
-    (answer : Bool) (text : List ℕ) : Type 0 where
+pub record IsJustifyReport (source : File) (statement : List ℕ) (given : List Given) (all : Bool)
+    (profile : Profile) (answer : Bool) (text : List ℕ) : Type 0 where
   pub bounded : IsBounded source statement profile
   pub read : Source
   pub left : Option OnTrust
@@ -59,7 +60,7 @@ pub record IsJustifyReport (source statement : List ℕ) (given : List Given) (a
   pub answer_is : answer ≡ is_enough all rows
 
 -- the answer to a source and a statement
-abbrev pub ReportsJustified : {O : Type 0} → (O → Option (List ℕ)) → (O → ℕ) → List ℕ → List ℕ → List Given
+abbrev pub ReportsJustified : {O : Type 0} → (O → Option (List ℕ)) → (O → ℕ) → File → List ℕ → List Given
     → (all : Bool) → Profile → O → O → Result Bool ReportFault → Type 0
 ReportsJustified taken failures source statement given all profile old new result =
     Answers taken failures (IsJustifyReport source statement given all profile)

@@ -11,6 +11,7 @@ ghost use Rattle.handlers.specs.Priced.{Priced, given};
 ghost use Rattle.handlers.specs.Refusal.{Carries, CarriesRead, CarriesReadBy, ComesAlone, fault_only};
 ghost use Rattle.handlers.specs.Refusal.{stop_fault};
 ghost use Rattle.handlers.specs.Report.{BeforeOutput, HasLoops, IsRefused};
+ghost use Rattle.sources.specs.File.{file_of};
 ghost use Rattle.sources.specs.Source.{IsSource};
 ghost use Rattle.justify_reports.specs.JustifyReport.{IsJustifyReport, IsJustifyText, ReportsJustified};
 ghost use Rattle.justify_reports.specs.JustifyReport.{is_enough};
@@ -30,14 +31,14 @@ use known_places::{
 };
 use known_words::{Given, Knowledge, Range};
 use outputs::Output;
-use sources::Source;
+use sources::{Source, SourceFile};
 use std::alloc::{AllocError, Global};
 
 /// A handler of whose statement it is asked what follows from the code.
 #[derive(Clone, Copy)]
 pub struct JustifiedHandler<'a, 'g> {
     /// The bytes of its source, a text or an image.
-    pub source: &'a [u8],
+    pub source: SourceFile<'a>,
     /// The text of the statement on it.
     pub statement: &'a [u8],
     /// What is given of the registers at its entry.
@@ -169,16 +170,16 @@ fn handler_justified(
     handler: &Handler<'_>,
     profile: &Profile,
 ) -> Result<Justified, ReportFault>
-    requires said { IsSource justified.source.now said.now }
+    requires said { IsSource (file_of justified.source) said.now }
     requires image { handler.now.image.now ≡ said.now.image }
-    requires loops { HasLoops justified.source.now justified.statement.now profile.now handler.now.statement
-        handler.now.graph }
+    requires loops { HasLoops (file_of justified.source) justified.statement.now profile.now
+        handler.now.statement handler.now.graph }
     requires tree { HasItsTree handler.now }
     ensures shows { IfOk result
-        (λ j. IsJustifyReport justified.entry.source.now justified.entry.statement.now
+        (λ j. IsJustifyReport (file_of justified.entry.source) justified.entry.statement.now
         justified.entry.given.now justified.entry.all profile.now j.enough j.text.items) }
     ensures fault { IfErr result (BeforeOutput
-        (IsRefused justified.entry.source.now justified.entry.statement.now profile.now)) }
+        (IsRefused (file_of justified.entry.source) justified.entry.statement.now profile.now)) }
     ensures alone { IfErr result ComesAlone }
 {
     let found = longest_of(alloc, handler)?;
@@ -213,12 +214,13 @@ fn source_justified<'a>(
     said: &Source<'_>,
     profile: &Profile,
 ) -> Result<Justified, Stop<'a>>
-    requires { IsSource justified.source.now said.now }
+    requires { IsSource (file_of justified.source) said.now }
     ensures shows { IfOk result
-        (λ j. IsJustifyReport justified.entry.source.now justified.entry.statement.now
+        (λ j. IsJustifyReport (file_of justified.entry.source) justified.entry.statement.now
         justified.entry.given.now justified.entry.all profile.now j.enough j.text.items) }
     ensures fault { IfErr result (λ s. BeforeOutput
-        (IsRefused justified.entry.source.now justified.entry.statement.now profile.now) (stop_fault s)) }
+        (IsRefused (file_of justified.entry.source) justified.entry.statement.now profile.now)
+        (stop_fault s)) }
     ensures carries { IfErr result (Carries said.now justified.entry.statement.now profile.now) }
 {
     let handler = read_handler(alloc, said, justified.statement, profile)?;
@@ -232,12 +234,12 @@ fn read_justified<'a>(
     profile: &Profile,
 ) -> Result<Justified, Refusal<'a>>
     ensures shows { IfOk result
-        (λ j. IsJustifyReport justified.entry.source.now justified.entry.statement.now
+        (λ j. IsJustifyReport (file_of justified.entry.source) justified.entry.statement.now
         justified.entry.given.now justified.entry.all profile.now j.enough j.text.items) }
     ensures fault { IfErr (fault_only result) (BeforeOutput
-        (IsRefused justified.entry.source.now justified.entry.statement.now profile.now)) }
+        (IsRefused (file_of justified.entry.source) justified.entry.statement.now profile.now)) }
     ensures carries { IfErr result
-        (CarriesRead justified.entry.source.now (justified.entry.statement.now ∷ []) profile.now) }
+        (CarriesRead (file_of justified.entry.source) (justified.entry.statement.now ∷ []) profile.now) }
 {
     let said = read_source(alloc, justified.source)?;
     let found = source_justified(alloc, justified, &said, profile);
@@ -262,10 +264,11 @@ pub fn justify_report<'a, O: Output>(
     out: &mut O,
 ) -> Result<bool, Refusal<'a>>
     ensures answers { Priced (given profile.entry)
-        (λ p. ReportsJustified O.taken O.failures justified.entry.source.now justified.entry.statement.now
+        (λ p. ReportsJustified O.taken O.failures (file_of justified.entry.source)
+        justified.entry.statement.now
         justified.entry.given.now justified.entry.all p out.old out.new (fault_only result)) out.old out.new
         (fault_only result) }
-    ensures carries { IfErr result (CarriesReadBy (given profile.entry) justified.entry.source.now
+    ensures carries { IfErr result (CarriesReadBy (given profile.entry) (file_of justified.entry.source)
         (justified.entry.statement.now ∷ [])) }
 {
     let profile = profile_of(alloc, profile)?;

@@ -8,9 +8,10 @@ use Rattle.image.specs.Labels.{Names}
 use Rattle.sources.specs.Source.{Said, source_of}
 use Rattle.handlers.specs.Placing.{IsRunnable}
 use Rattle.machine_reports.specs.Machine.{End, Front, IsMachineReport}
+use Rattle.sources.specs.File.{File}
 
 -- what is shown could be run
-pub runnable : (Shows : Front) (ends : End) (source machine : List ℕ) (profile : Profile) (done : Bool) (text : List ℕ) → IsMachineReport Shows ends source machine profile done text → IsRunnable source machine profile
+pub runnable : (Shows : Front) (ends : End) (source : File) (machine : List ℕ) (profile : Profile) (done : Bool) (text : List ℕ) → IsMachineReport Shows ends source machine profile done text → IsRunnable source machine profile
 runnable Shows ends source machine profile done text h =
     record { file = h.loaded.file; state = h.state; placed = h.loaded.placed }
 
@@ -21,7 +22,7 @@ none_is (Some why) true is = absurd (cc is)
 none_is (Some why) false is = (λ t. absurd (cc t), λ e. absurd (cc e))
 
 -- a source has one set of labels
-pub same_names : (source : List ℕ) (words others : Words) (names own : Names)
+pub same_names : (source : File) (words others : Words) (names own : Names)
     → source_of source ≡ Ok (words, names) → source_of source ≡ Ok (others, own) → names ≡ own
 same_names source words others names own h k =
     let said : Ok (words, names) ≡ Ok (others, own) = sym h ∙ k in

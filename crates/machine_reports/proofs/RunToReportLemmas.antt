@@ -10,9 +10,10 @@ use Rattle.handlers.specs.declared.fault.ReportFault.TheVariants as report_fault
 use Rattle.machine_reports.specs.Machine.{End, Front}
 use Rattle.machine_reports.specs.RunTo.{HasEnd, HasNoEnd, IsRunToRefused, IsRunToReport, IsRunnableTo, end_of}
 use Rattle.machine_reports.proofs.MachineLemmas.{same_names}
+use Rattle.sources.specs.File.{File}
 
 -- what is shown could be run
-pub runnable_to : (Shows : Front) (ends : End) (source machine word : List ℕ) (profile : Profile) (done : Bool)
+pub runnable_to : (Shows : Front) (ends : End) (source : File) (machine word : List ℕ) (profile : Profile) (done : Bool)
     (text : List ℕ) → IsRunToReport Shows ends source machine word profile done text
     → IsRunnableTo source machine word profile
 runnable_to Shows ends source machine word profile done text h =
@@ -28,7 +29,7 @@ runnable_to Shows ends source machine word profile done text h =
       runnable = record { file = h.loaded.file; state = h.state; placed = placed };
     }
 
-module _ (source machine word : List ℕ) (profile : Profile) where
+module _ (source : File) (machine word : List ℕ) (profile : Profile) where
   -- a machine is refused where the word is an address
   pub refused_to : HasEnd source word → (e : ReportFault)
       → BeforeOutput (IsRunRefused source machine profile) e

@@ -7,10 +7,12 @@ use Rattle.machine_file.specs.Stated.{Stated}
 use Rattle.debugger.specs.Conversation.{Converses}
 use Rattle.debugger.specs.SessionState.{begun}
 use Rattle.handlers.specs.Placing.{IsPlaced}
+use Rattle.sources.specs.File.{File}
 
 -- the session of the loaded machine by the lines of the commands and the labels of the source, with the file's
 -- word at the port; its steps and events are not used
-pub record IsDebugReport (source machine commands : List ℕ) (profile : Profile) (text : List ℕ) : Type 0 where
+pub record IsDebugReport (source : File) (machine commands : List ℕ) (profile : Profile)
+    (text : List ℕ) : Type 0 where
   pub file : Stated
   pub state : State
   pub placed : IsPlaced source machine profile file state

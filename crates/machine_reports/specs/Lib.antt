@@ -1,3 +1,4 @@
 pub mod Debug
 pub mod Machine
 pub mod RunTo
+pub mod Vectors

@@ -16,6 +16,7 @@ use Rattle.text_trace.specs.TraceText.{TracesRun, registers_text, stop_text, tic
 use Rattle.handlers.specs.Answers.{Answers}
 use Rattle.handlers.specs.declared.fault.ReportFault.{ReportFault}
 use Rattle.handlers.specs.Placing.{IsLoaded, IsRunRefused, IsRunnable}
+use Rattle.sources.specs.File.{File}
 
 -- ## The texts
 
@@ -59,8 +60,8 @@ abbrev pub record_end : End
 record_end to ran after = end_line ran after
 
 -- the report of the run, and whether it did all its steps
-pub record IsMachineReport (Shows : Front) (ends : End) (source machine : List ℕ) (profile : Profile) (done : Bool)
-    (text : List ℕ) : Type 0 where
+pub record IsMachineReport (Shows : Front) (ends : End) (source : File) (machine : List ℕ) (profile : Profile)
+    (done : Bool) (text : List ℕ) : Type 0 where
   pub state : State
   pub inputs : List Input
   pub ran : Ran
@@ -73,7 +74,7 @@ pub record IsMachineReport (Shows : Front) (ends : End) (source machine : List �
   pub text_is : text ≡ front ++ ends None ran after
 
 -- the answer to a source and a machine file: the report of the run
-abbrev pub ReportsRun : {O : Type 0} → Front → End → (O → Option (List ℕ)) → (O → ℕ) → List ℕ → List ℕ → Profile
+abbrev pub ReportsRun : {O : Type 0} → Front → End → (O → Option (List ℕ)) → (O → ℕ) → File → List ℕ → Profile
     → O → O → Result Bool ReportFault → Type 0
 ReportsRun Shows ends taken failures source machine profile old new result =
     Answers taken failures (IsMachineReport Shows ends source machine profile) (IsRunnable source machine profile)

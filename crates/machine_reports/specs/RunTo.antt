@@ -17,6 +17,7 @@ use Rattle.handlers.specs.Placing.{IsFileRefused, IsLoadRefused, IsLoaded, IsRun
 use Rattle.handlers.specs.declared.fault.ReportFault.{ReportFault}
 use Rattle.handlers.specs.declared.fault.ReportFault.TheVariants as report_fault
 use Rattle.machine_reports.specs.Machine.{End, Front}
+use Rattle.sources.specs.File.{File}
 
 -- ## Where it ends
 
@@ -50,8 +51,8 @@ pub record ShowsRunTo (Shows : Front) (to : ℕ) (s : State) (inputs : List Inpu
 -- ## Its report
 
 -- the report of the run, and whether the machine did not stop
-pub record IsRunToReport (Shows : Front) (ends : End) (source machine word : List ℕ) (profile : Profile)
-    (done : Bool) (text : List ℕ) : Type 0 where
+pub record IsRunToReport (Shows : Front) (ends : End) (source : File) (machine word : List ℕ)
+    (profile : Profile) (done : Bool) (text : List ℕ) : Type 0 where
   pub state : State
   pub inputs : List Input
   pub loaded : IsLoaded source machine profile state inputs
@@ -66,7 +67,7 @@ pub record IsRunToReport (Shows : Front) (ends : End) (source machine word : Lis
 
 -- ## Refusals
 
-module _ (source word : List ℕ) where
+module _ (source : File) (word : List ℕ) where
   -- the source has words and labels, and the word is an address by them
   pub record HasEnd : Type 0 where
     pub words : Words
@@ -82,7 +83,7 @@ module _ (source word : List ℕ) where
     pub source_is : source_of source ≡ Ok (words, names)
     pub to_is : end_of names word ≡ None
 
-module _ (source machine word : List ℕ) (profile : Profile) where
+module _ (source : File) (machine word : List ℕ) (profile : Profile) where
   -- all texts can be read, and the machine can be loaded
   pub record IsRunnableTo : Type 0 where
     pub end : HasEnd source word
@@ -99,7 +100,7 @@ module _ (source machine word : List ℕ) (profile : Profile) where
 
 -- the answer to a source, a machine file and a word: the report of the run
 abbrev pub ReportsRunTo : {O : Type 0} → Front → End → (O → Option (List ℕ)) → (O → ℕ)
-    → (source machine word : List ℕ) → Profile → O → O → Result Bool ReportFault → Type 0
+    → (source : File) (machine word : List ℕ) → Profile → O → O → Result Bool ReportFault → Type 0
 ReportsRunTo Shows ends taken failures source machine word profile old new result =
     Answers taken failures (IsRunToReport Shows ends source machine word profile)
     (IsRunnableTo source machine word profile) (IsRunToRefused source machine word profile) old new result

@@ -5,18 +5,19 @@ ghost use Rattle.handlers.specs.Placing.{IsRunRefused, IsRunnable};
 ghost use Rattle.handlers.specs.Priced.{Priced};
 ghost use Rattle.handlers.specs.Report.{BeforeOutput};
 ghost use Rattle.sources.specs.Source.{Says};
+ghost use Rattle.sources.specs.File.{file_of};
 
 use bus_ticks::Profile;
 use debugger::converse;
 use handlers::{ReportFault, place_image, print_answer, profile_of, read_source};
 use outputs::Output;
-use sources::Source;
+use sources::{Source, SourceFile};
 use std::alloc::Global;
 
 // The bytes of a source, a machine file and a session's commands.
 #[derive(Clone, Copy)]
 struct SessionInputs<'a> {
-    source: &'a [u8],
+    source: SourceFile<'a>,
     machine: &'a [u8],
     commands: &'a [u8],
 }
@@ -28,12 +29,13 @@ fn converse_on(
     inputs: SessionInputs<'_>,
     profile: Profile,
 ) -> Result<Vec<u8>, ReportFault>
-    ensures session { Says inputs.entry.source.now said.now
+    ensures session { Says (file_of inputs.entry.source) said.now
         → IfOk result
-        (λ text. IsDebugReport inputs.entry.source.now inputs.entry.machine.now inputs.entry.commands.now
-        profile text.items) }
-    ensures fault { Says inputs.entry.source.now said.now
-        → IfErr result (BeforeOutput (IsRunRefused inputs.entry.source.now inputs.entry.machine.now profile)) }
+        (λ text. IsDebugReport (file_of inputs.entry.source) inputs.entry.machine.now
+        inputs.entry.commands.now profile text.items) }
+    ensures fault { Says (file_of inputs.entry.source) said.now
+        → IfErr result (BeforeOutput (IsRunRefused (file_of inputs.entry.source) inputs.entry.machine.now
+        profile)) }
 {
     let placed = place_image(alloc, said, inputs.machine, profile)?;
     let port = placed.file.port();
@@ -48,11 +50,11 @@ fn session_text(
     profile: Profile,
 ) -> Result<Vec<u8>, ReportFault>
     ensures session { IfOk result
-        (λ text. IsDebugReport inputs.entry.source.now inputs.entry.machine.now inputs.entry.commands.now
-        profile text.items) }
+        (λ text. IsDebugReport (file_of inputs.entry.source) inputs.entry.machine.now
+        inputs.entry.commands.now profile text.items) }
     ensures fault { IfErr result
-        (BeforeOutput (IsRunRefused inputs.entry.source.now inputs.entry.machine.now profile)) }
-    ensures only { IsRunnable inputs.entry.source.now inputs.entry.machine.now profile
+        (BeforeOutput (IsRunRefused (file_of inputs.entry.source) inputs.entry.machine.now profile)) }
+    ensures only { IsRunnable (file_of inputs.entry.source) inputs.entry.machine.now profile
         → IfErr result (λ e. e ≡ ReportFault.Memory) }
 {
     let said = read_source(alloc, inputs.source)?;
@@ -73,7 +75,7 @@ fn session_text(
 /// but `Device` nothing was written.
 pub fn debug_report<O: Output>(
     alloc: Global,
-    source: &[u8],
+    source: SourceFile<'_>,
     machine: &[u8],
     commands: &[u8],
     profile: Option<&[u8]>,
@@ -81,9 +83,9 @@ pub fn debug_report<O: Output>(
 ) -> Result<(), ReportFault>
     ensures { Priced (option_map (λ f. f.now) profile.entry)
         (λ p. Answers O.taken O.failures
-        (λ _ text. IsDebugReport source.now machine.now commands.now p text)
-        (IsRunnable source.now machine.now p)
-        (IsRunRefused source.now machine.now p) out.old out.new result) out.old out.new result }
+        (λ _ text. IsDebugReport (file_of source.entry) machine.now commands.now p text)
+        (IsRunnable (file_of source.entry) machine.now p)
+        (IsRunRefused (file_of source.entry) machine.now p) out.old out.new result) out.old out.new result }
 {
     let profile = profile_of(alloc, profile)?;
     let inputs = SessionInputs {
@@ -101,10 +103,10 @@ fn priced_session<O: Output>(
     out: &mut O,
 ) -> Result<(), ReportFault>
     ensures { Answers O.taken O.failures
-        (λ _ text. IsDebugReport inputs.entry.source.now inputs.entry.machine.now inputs.entry.commands.now
-        profile text)
-        (IsRunnable inputs.entry.source.now inputs.entry.machine.now profile)
-        (IsRunRefused inputs.entry.source.now inputs.entry.machine.now profile) out.old out.new result }
+        (λ _ text. IsDebugReport (file_of inputs.entry.source) inputs.entry.machine.now
+        inputs.entry.commands.now profile text)
+        (IsRunnable (file_of inputs.entry.source) inputs.entry.machine.now profile)
+        (IsRunRefused (file_of inputs.entry.source) inputs.entry.machine.now profile) out.old out.new result }
 {
     let text = session_text(alloc, inputs, profile)?;
     print_answer((), &text, out)

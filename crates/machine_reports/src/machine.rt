@@ -11,6 +11,7 @@ ghost use Rattle.machine_reports.specs.Machine.{record_end};
 ghost use Rattle.machine_reports.specs.RunTo.{ShowsRunTo};
 ghost use Rattle.handlers.specs.Priced.{Priced};
 ghost use Rattle.handlers.specs.Report.{BeforeOutput};
+ghost use Rattle.sources.specs.File.{File, file_of};
 
 use crate::steps_to::{write_records_to, write_registers_to, write_run_to};
 use arm2_exec::{Input, Machine, Ran};
@@ -18,6 +19,7 @@ use bus_ticks::Profile;
 use handlers::{Placed, ReportFault, place, print_answer, profile_of};
 use json_trace::write_records;
 use outputs::Output;
+use sources::SourceFile;
 use std::alloc::{AllocError, Global};
 use std::fmt::Write;
 use text_trace::{write_registers, write_run, write_stop, write_ticks};
@@ -226,14 +228,16 @@ impl Front for ShownRecords {
 
 fn report_of<F: Front>(
     alloc: Global,
-    source: &[u8],
+    source: SourceFile<'_>,
     machine: &[u8],
     profile: Profile,
 ) -> Result<Shown, ReportFault>
     ensures shown { IfOk result
-        (λ s. IsMachineReport F.shows F.ends source.now machine.now profile s.done (string_bytes s.text)) }
-    ensures fault { IfErr result (BeforeOutput (IsRunRefused source.now machine.now profile)) }
-    ensures only { IsRunnable source.now machine.now profile → IfErr result (λ e. e ≡ ReportFault.Memory) }
+        (λ s. IsMachineReport F.shows F.ends (file_of source.entry) machine.now profile s.done
+        (string_bytes s.text)) }
+    ensures fault { IfErr result (BeforeOutput (IsRunRefused (file_of source.entry) machine.now profile)) }
+    ensures only { IsRunnable (file_of source.entry) machine.now profile → IfErr result
+        (λ e. e ≡ ReportFault.Memory) }
 {
     let mut placed = place(alloc, source, machine, profile)?;
     placed_report::<F>(alloc, &mut placed)
@@ -241,7 +245,7 @@ fn report_of<F: Front>(
 
 // The report of a machine that has all its words.
 fn placed_report<F: Front>(alloc: Global, placed: &mut Placed) -> Result<Shown, ReportFault>
-    ensures shown { (source machine : List ℕ) (profile : Profile)
+    ensures shown { (source : File) (machine : List ℕ) (profile : Profile)
         → IsPlaced source machine profile placed.old.file placed.old.machine
         → IfOk result (λ s. IsMachineReport F.shows F.ends source machine profile s.done (string_bytes s.text)) }
     ensures memory { IfErr result (λ e. e ≡ ReportFault.Memory) }
@@ -258,12 +262,13 @@ fn placed_report<F: Front>(alloc: Global, placed: &mut Placed) -> Result<Shown, 
 
 fn priced<F: Front, O: Output>(
     alloc: Global,
-    source: &[u8],
+    source: SourceFile<'_>,
     machine: &[u8],
     profile: Profile,
     out: &mut O,
 ) -> Result<bool, ReportFault>
-    ensures { ReportsRun F.shows F.ends O.taken O.failures source.now machine.now profile out.old out.new result }
+    ensures { ReportsRun F.shows F.ends O.taken O.failures (file_of source.entry) machine.now profile out.old
+        out.new result }
 {
     let shown = report_of::<F>(alloc, source, machine, profile)?;
     print_answer(shown.done, shown.text.as_bytes(), out)
@@ -277,14 +282,14 @@ fn priced<F: Front, O: Output>(
 /// Those of [`run_report`], in the same order. After any but `Device` nothing was written.
 pub fn machine_report<F: Front, O: Output>(
     alloc: Global,
-    source: &[u8],
+    source: SourceFile<'_>,
     machine: &[u8],
     profile: Option<&[u8]>,
     out: &mut O,
 ) -> Result<bool, ReportFault>
     ensures { Priced (option_map (λ f. f.now) profile.entry)
-        (λ p. ReportsRun F.shows F.ends O.taken O.failures source.now machine.now p out.old out.new result) out.old
-        out.new result }
+        (λ p. ReportsRun F.shows F.ends O.taken O.failures (file_of source.entry) machine.now p out.old
+        out.new result) out.old out.new result }
 {
     let profile = profile_of(alloc, profile)?;
     priced::<F, O>(alloc, source, machine, profile, out)
@@ -302,14 +307,14 @@ pub fn machine_report<F: Front, O: Output>(
 /// has ended, so after any fault but `Device` nothing was.
 pub fn run_report<O: Output>(
     alloc: Global,
-    source: &[u8],
+    source: SourceFile<'_>,
     machine: &[u8],
     profile: Option<&[u8]>,
     out: &mut O,
 ) -> Result<bool, ReportFault>
     ensures { Priced (option_map (λ f. f.now) profile.entry)
-        (λ p. ReportsRun ShowsRegisters lines_end O.taken O.failures source.now machine.now p out.old out.new result)
-        out.old out.new result }
+        (λ p. ReportsRun ShowsRegisters lines_end O.taken O.failures (file_of source.entry) machine.now p
+        out.old out.new result) out.old out.new result }
 {
     machine_report::<ShownRegisters, O>(alloc, source, machine, profile, out)
 }
@@ -322,14 +327,14 @@ pub fn run_report<O: Output>(
 /// Those of [`run_report`], in the same order.
 pub fn trace_report<O: Output>(
     alloc: Global,
-    source: &[u8],
+    source: SourceFile<'_>,
     machine: &[u8],
     profile: Option<&[u8]>,
     out: &mut O,
 ) -> Result<bool, ReportFault>
     ensures { Priced (option_map (λ f. f.now) profile.entry)
-        (λ p. ReportsRun ShowsSteps lines_end O.taken O.failures source.now machine.now p out.old out.new result)
-        out.old out.new result }
+        (λ p. ReportsRun ShowsSteps lines_end O.taken O.failures (file_of source.entry) machine.now p out.old
+        out.new result) out.old out.new result }
 {
     machine_report::<ShownSteps, O>(alloc, source, machine, profile, out)
 }

@@ -11,6 +11,7 @@ ghost use Rattle.handlers.specs.Report.{BeforeOutput};
 ghost use Rattle.machine_reports.specs.RunTo.{IsRunToRefused, IsRunToReport, IsRunnableTo, ReportsRunTo};
 ghost use Rattle.machine_reports.specs.RunTo.{end_of};
 ghost use Rattle.sources.specs.Source.{Says};
+ghost use Rattle.sources.specs.File.{File, file_of};
 
 use crate::machine::{Front, Shown};
 use asm_text::{read_hex, read_number};
@@ -18,14 +19,14 @@ use bus_ticks::{Profile, SPACE_END};
 use handlers::{Placed, ReportFault, place_image, print_answer, profile_of, read_source};
 use image::Labels;
 use outputs::Output;
-use sources::Source;
+use sources::{Source, SourceFile};
 use std::alloc::Global;
 
 /// What a run that ends before the instruction at an address is made of: a source, a machine file, and the
 /// word that says the address.
 #[derive(Clone, Copy)]
 pub struct RunTo<'a> {
-    pub source: &'a [u8],
+    pub source: SourceFile<'a>,
     pub machine: &'a [u8],
     /// A label of the source, or a number: decimal, or hexadecimal after `&` or `0x`.
     pub to: &'a [u8],
@@ -67,7 +68,7 @@ fn placed_report<F: Front>(
     placed: &mut Placed,
     to: u32,
 ) -> Result<Shown, ReportFault>
-    ensures shown { (source machine word : List ℕ) (profile : Profile)
+    ensures shown { (source : File) (machine word : List ℕ) (profile : Profile)
         → (is : IsPlaced source machine profile placed.old.file placed.old.machine)
         → end_of is.stated.names word ≡ Some to
         → IfOk result (λ s. IsRunToReport F.shows F.ends source machine word profile s.done (string_bytes s.text)) }
@@ -90,13 +91,13 @@ fn source_report<F: Front>(
     asked: RunTo<'_>,
     profile: Profile,
 ) -> Result<Shown, ReportFault>
-    ensures shown { Says asked.entry.source.now said.now
+    ensures shown { Says (file_of asked.entry.source) said.now
         → IfOk result
-        (λ s. IsRunToReport F.shows F.ends asked.entry.source.now asked.entry.machine.now asked.entry.to.now profile
-        s.done (string_bytes s.text)) }
-    ensures fault { Says asked.entry.source.now said.now
+        (λ s. IsRunToReport F.shows F.ends (file_of asked.entry.source) asked.entry.machine.now
+        asked.entry.to.now profile s.done (string_bytes s.text)) }
+    ensures fault { Says (file_of asked.entry.source) said.now
         → IfErr result (BeforeOutput
-        (IsRunToRefused asked.entry.source.now asked.entry.machine.now asked.entry.to.now profile)) }
+        (IsRunToRefused (file_of asked.entry.source) asked.entry.machine.now asked.entry.to.now profile)) }
 {
     let Some(to) = end_of(&said.labels, asked.to) else {
         return Err(ReportFault::NoSuchEntry);
@@ -111,12 +112,12 @@ fn report_of<F: Front>(
     profile: Profile,
 ) -> Result<Shown, ReportFault>
     ensures shown { IfOk result
-        (λ s. IsRunToReport F.shows F.ends asked.entry.source.now asked.entry.machine.now asked.entry.to.now profile
-        s.done (string_bytes s.text)) }
+        (λ s. IsRunToReport F.shows F.ends (file_of asked.entry.source) asked.entry.machine.now
+        asked.entry.to.now profile s.done (string_bytes s.text)) }
     ensures fault { IfErr result (BeforeOutput
-        (IsRunToRefused asked.entry.source.now asked.entry.machine.now asked.entry.to.now profile)) }
-    ensures only { IsRunnableTo asked.entry.source.now asked.entry.machine.now asked.entry.to.now profile
-        → IfErr result (λ e. e ≡ ReportFault.Memory) }
+        (IsRunToRefused (file_of asked.entry.source) asked.entry.machine.now asked.entry.to.now profile)) }
+    ensures only { IsRunnableTo (file_of asked.entry.source) asked.entry.machine.now asked.entry.to.now
+        profile → IfErr result (λ e. e ≡ ReportFault.Memory) }
 {
     let said = read_source(alloc, asked.source)?;
     source_report::<F>(alloc, &said, asked, profile)
@@ -128,8 +129,8 @@ fn priced<F: Front, O: Output>(
     profile: Profile,
     out: &mut O,
 ) -> Result<bool, ReportFault>
-    ensures { ReportsRunTo F.shows F.ends O.taken O.failures asked.entry.source.now asked.entry.machine.now
-        asked.entry.to.now profile out.old out.new result }
+    ensures { ReportsRunTo F.shows F.ends O.taken O.failures (file_of asked.entry.source)
+        asked.entry.machine.now asked.entry.to.now profile out.old out.new result }
 {
     let shown = report_of::<F>(alloc, asked, profile)?;
     print_answer(shown.done, shown.text.as_bytes(), out)
@@ -152,8 +153,8 @@ pub fn run_to_report<F: Front, O: Output>(
     out: &mut O,
 ) -> Result<bool, ReportFault>
     ensures { Priced (option_map (λ f. f.now) profile.entry)
-        (λ p. ReportsRunTo F.shows F.ends O.taken O.failures asked.entry.source.now asked.entry.machine.now
-        asked.entry.to.now p out.old out.new result) out.old out.new result }
+        (λ p. ReportsRunTo F.shows F.ends O.taken O.failures (file_of asked.entry.source)
+        asked.entry.machine.now asked.entry.to.now p out.old out.new result) out.old out.new result }
 {
     let profile = profile_of(alloc, profile)?;
     priced::<F, O>(alloc, asked, profile, out)

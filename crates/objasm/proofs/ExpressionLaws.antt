@@ -14,17 +14,18 @@ use Rattle.objasm.specs.declared.evaluation.Waiting.TheVariants as waits
 use Rattle.objasm.specs.declared.operators.Binary.{Binary}
 use Rattle.objasm.specs.declared.operators.Binary.TheVariants.{Times}
 use Rattle.objasm.specs.declared.operators.Unary.{Unary}
-use Rattle.objasm.specs.declared.operators.Unary.TheVariants.{Keep, Negate, Invert}
+use Rattle.objasm.specs.declared.operators.Unary.TheVariants.{Keep, Negate, Invert, Deny}
+use Rattle.objasm.specs.declared.operators.Value.{Value}
 use Rattle.objasm.specs.declared.symbols.Symbol.{Symbol}
-use Rattle.objasm.specs.declared.symbols.Symbol.TheVariants.{Number, Operator, Not, Open, Close}
+use Rattle.objasm.specs.declared.symbols.Symbol.TheVariants.{Number, Operator, Not, LogicalNot, Open, Close}
 
 abbrev State : Type 0
 State = List Waiting × Place
 
 -- above this level nothing that is between two values may stand on what waits
 abbrev pub room : List Waiting → ℕ
-room [] = 4
-room (waits.Opened ∷ ws) = 4
+room [] = 6
+room (waits.Opened ∷ ws) = 6
 room (waits.Before u ∷ ws) = 1
 room (waits.Between x b ∷ ws) = level b
 
@@ -37,37 +38,38 @@ level_some : (b : Binary) → nat_lt 0 (level b) ≡ true
 level_some Times = refl
 level_some _ = refl
 
-pub level_below : (b : Binary) → nat_lt (level b) 4 ≡ true
+pub level_below : (b : Binary) → nat_lt (level b) 6 ≡ true
 level_below Times = refl
 level_below _ = refl
 
-level_all : (b : Binary) → nat_le (level b) 3 ≡ true
+level_all : (b : Binary) → nat_le (level b) 5 ≡ true
 level_all Times = refl
 level_all _ = refl
 
-pub reduced_ready : (k : ℕ) (w : Waiting) (ws : List Waiting) (v : Option ℕ) → is_ready k w ≡ true → reduced k (w ∷ ws) v ≡ reduced k ws (released w v)
+pub reduced_ready : (k : ℕ) (w : Waiting) (ws : List Waiting) (v : Option Value) → is_ready k w ≡ true → reduced k (w ∷ ws) v ≡ reduced k ws (released w v)
 unfolding reduced
 reduced_ready k w ws v h = rw h refl
 
-pub reduced_kept : (k : ℕ) (w : Waiting) (ws : List Waiting) (v : Option ℕ) → is_ready k w ≡ false → reduced k (w ∷ ws) v ≡ (w ∷ ws, v)
+pub reduced_kept : (k : ℕ) (w : Waiting) (ws : List Waiting) (v : Option Value) → is_ready k w ≡ false → reduced k (w ∷ ws) v ≡ (w ∷ ws, v)
 unfolding reduced
 reduced_kept k w ws v h = rw h refl
 
 -- what waits is applied at the end, at a `)` and at an operator that binds no tighter
-releases : (w : Waiting) (ws : List Waiting) (v : Option ℕ) (rest : List Symbol) → ((b : Binary) (ss : List Symbol) → rest ≡ Operator b ∷ ss → is_ready (level b) w ≡ true) → is_ready 3 w ≡ true
+releases : (w : Waiting) (ws : List Waiting) (v : Option Value) (rest : List Symbol) → ((b : Binary) (ss : List Symbol) → rest ≡ Operator b ∷ ss → is_ready (level b) w ≡ true) → is_ready 5 w ≡ true
     → run (w ∷ ws) (Has v) rest ≡ run ws (Has (released w v)) rest
 unfolding run
-releases w ws v [] tight all = ap ended (reduced_ready 3 w ws v all)
+releases w ws v [] tight all = ap ended (reduced_ready 5 w ws v all)
 releases w ws v (Number n ∷ ss) tight all = refl
 releases w ws v (Not ∷ ss) tight all = refl
+releases w ws v (LogicalNot ∷ ss) tight all = refl
 releases w ws v (Open ∷ ss) tight all = refl
 releases w ws v (Close ∷ ss) tight all =
-    ap (λ (r : List Waiting × Option ℕ). option_and_then (λ (n : State). run n.0 n.1 ss) (closed r)) (reduced_ready 3 w ws v all)
+    ap (λ (r : List Waiting × Option Value). option_and_then (λ (n : State). run n.0 n.1 ss) (closed r)) (reduced_ready 5 w ws v all)
 releases w ws v (Operator b ∷ ss) tight all =
-    ap (λ (r : List Waiting × Option ℕ). run (waits.Between r.1 b ∷ r.0) Expects ss) (reduced_ready (level b) w ws v (tight b ss refl))
+    ap (λ (r : List Waiting × Option Value). run (waits.Between r.1 b ∷ r.0) Expects ss) (reduced_ready (level b) w ws v (tight b ss refl))
 
 -- what waits stays at an operator that binds tighter
-stays : (ws : List Waiting) (v : Option ℕ) (b : Binary) → nat_lt (level b) (room ws) ≡ true → reduced (level b) ws v ≡ (ws, v)
+stays : (ws : List Waiting) (v : Option Value) (b : Binary) → nat_lt (level b) (room ws) ≡ true → reduced (level b) ws v ≡ (ws, v)
 unfolding reduced
 stays [] v b h = refl
 stays (waits.Opened ∷ ws) v b h = refl
@@ -82,25 +84,27 @@ unfolding run
 opens ws Keep ss = refl
 opens ws Negate ss = refl
 opens ws Invert ss = refl
+opens ws Deny ss = refl
 
 pub group_opens : (ws : List Waiting) (ss : List Symbol) → run ws Expects (Open ∷ ss) ≡ run (waits.Opened ∷ ws) Expects ss
 unfolding run
 group_opens ws ss = refl
 
-group_closes : (ws : List Waiting) (v : Option ℕ) (ss : List Symbol) → run (waits.Opened ∷ ws) (Has v) (Close ∷ ss) ≡ run ws (Has v) ss
+group_closes : (ws : List Waiting) (v : Option Value) (ss : List Symbol) → run (waits.Opened ∷ ws) (Has v) (Close ∷ ss) ≡ run ws (Has v) ss
 unfolding run reduced
 group_closes ws v ss = refl
 
-between_goes : (ws : List Waiting) (v : Option ℕ) (b : Binary) (ss : List Symbol) → nat_lt (level b) (room ws) ≡ true
+between_goes : (ws : List Waiting) (v : Option Value) (b : Binary) (ss : List Symbol) → nat_lt (level b) (room ws) ≡ true
     → run ws (Has v) (Operator b ∷ ss) ≡ run (waits.Between v b ∷ ws) Expects ss
 unfolding run
-between_goes ws v b ss h = ap (λ (r : List Waiting × Option ℕ). run (waits.Between r.1 b ∷ r.0) Expects ss) (stays ws v b h)
+between_goes ws v b ss h = ap (λ (r : List Waiting × Option Value). run (waits.Between r.1 b ∷ r.0) Expects ss) (stays ws v b h)
 
 less_follows : (j k : ℕ) (rest : List Symbol) → nat_lt j k ≡ true → Follows k rest → Follows j rest
 less_follows j k [] lt f = tt
 less_follows j k (Operator b ∷ ss) lt f = grind (arith, nat_tests)
 less_follows j k (Number n ∷ ss) lt f = tt
 less_follows j k (Not ∷ ss) lt f = tt
+less_follows j k (LogicalNot ∷ ss) lt f = tt
 less_follows j k (Open ∷ ss) lt f = tt
 less_follows j k (Close ∷ ss) lt f = tt
 
@@ -110,7 +114,7 @@ some_room (waits.Opened ∷ ws) = refl
 some_room (waits.Before u ∷ ws) = refl
 some_room (waits.Between x b ∷ ws) = level_some b
 
-outer_below : (e : Expression) → nat_lt (outer_level e) 4 ≡ true
+outer_below : (e : Expression) → nat_lt (outer_level e) 6 ≡ true
 outer_below (Between b left right) = level_below b
 outer_below (Lone n) = refl
 outer_below (Group e) = refl
@@ -139,6 +143,7 @@ reads (Applied u e) ws rest g room_for f =
     none_follows (Operator b ∷ ss) = grind (arith, nat_tests, g.0)
     none_follows (Number n ∷ ss) = tt
     none_follows (Not ∷ ss) = tt
+    none_follows (LogicalNot ∷ ss) = tt
     none_follows (Open ∷ ss) = tt
     none_follows (Close ∷ ss) = tt
 reads (Between b left right) ws rest g room_for f =
@@ -154,6 +159,7 @@ reads (Between b left right) ws rest g room_for f =
     tight (Operator d ∷ ts) f c ss is = ap (λ (n : ℕ). nat_le (level b) n) (ap level (same_operator d c ts ss (sym is))) ∙ f
     tight (Number n ∷ ts) f c ss is = absurd cc
     tight (Not ∷ ts) f c ss is = absurd cc
+    tight (LogicalNot ∷ ts) f c ss is = absurd cc
     tight (Open ∷ ts) f c ss is = absurd cc
     tight (Close ∷ ts) f c ss is = absurd cc
 

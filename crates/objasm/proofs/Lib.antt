@@ -1,9 +1,12 @@
 mod PartLaws
 mod EvaluationLaws
 mod SymbolLaws
+mod TextLaws
 mod PlainLaws
+mod FeedLaws
 mod SourceLaws
 mod ExpressionLaws
 mod ReadingLaws
+mod ValueLaws
 mod ExchangeLaws
 mod NumberLaws

@@ -1,14 +1,17 @@
 -- The lines of a source, one after the other.
 use Rattle.std.proofs.Common.{◌≡◌, ◌+◌, inl, inr, ℕ, List, [], ◌∷◌, ◌++◌, length, append_assoc, Result, Ok, refl, sym, ap, ◌∙◌, Err}
 use Rattle.asm_text.specs.Source.{lines_of}
-use Rattle.std.specs.Prelude.{IfOk}
+use Rattle.std.specs.Prelude.{IfOk, Bool, true, false, ◌||◌}
 use Rattle.std.specs.List.{range_with_len}
 use Rattle.std.proofs.lemmas.List.{append-nil}
 use Rattle.asm_text.proofs.WordLaws.{same_Ok}
 use Rattle.objasm.specs.declared.source.DialectFault.{DialectFault}
+use Rattle.objasm.specs.declared.source.DialectFault.TheVariants as dialect
+use Rattle.objasm.specs.declared.source.Pass.{Pass}
 use Rattle.objasm.specs.declared.source.PlainSource.{PlainSource}
-use Rattle.objasm.specs.Names.{Meanings, Told, mapped, no_meanings}
-use Rattle.objasm.specs.Source.{FaultedAt, Plain, at_line, fault_at, line_settled, no_lines, plain_of, put_line, put_lines, put_next, settings, then_lines, translated}
+use Rattle.objasm.specs.Names.{Meanings, Told, mapped}
+use Rattle.objasm.specs.PlainLines.{Text, behind}
+use Rattle.objasm.specs.Source.{FaultedAt, Plain, at_line, fault_at, is_end, line_settled, line_text, meanings_in, no_lines, plain_lines, plain_of, settings, then_lines, translated, with_line}
 use Rattle.objasm.specs.declared.faults.LineFault.{LineFault}
 use Rattle.objasm.specs.declared.faults.LineFault.TheVariants.{Memory}
 
@@ -19,62 +22,104 @@ told_at Memory n r f whole told is = tt
 told_at {A} {B} fault n r f whole (inl e) is = absurd cc
 told_at {A} {B} fault n r f whole (inr e) is = sym is ∙ ap (λ (q : Result A LineFault). at_line n q f) e
 
-settings_more : (m : Meanings) (n : ℕ) (rest line after : List ℕ) → lines_of rest ≡ line ∷ lines_of after
-    → settings m n (lines_of rest) ≡ at_line n (line_settled m line) (λ more. settings more (n + 1) (lines_of after))
+settings_more : (k : Pass) (m : Meanings) (n : ℕ) (rest line after : List ℕ) → lines_of rest ≡ line ∷ lines_of after → is_end line ≡ false
+    → settings k m n (lines_of rest) ≡ at_line n (line_settled k m line) (λ more. settings k more (n + 1) (lines_of after))
 unfolding settings
-settings_more m n rest line after is = rw is refl
+settings_more k m n rest line after is goes = rw (is, goes) refl
 
-pub settings_go : (m more : Meanings) (n : ℕ) (rest line after : List ℕ) (whole : Result Meanings (LineFault × ℕ)) → lines_of rest ≡ line ∷ lines_of after → line_settled m line ≡ Ok more
-    → settings m n (lines_of rest) ≡ whole → settings more (n + 1) (lines_of after) ≡ whole
-settings_go m more n rest line after whole is set before =
-    ap (λ (q : Result Meanings LineFault). at_line n q (λ t. settings t (n + 1) (lines_of after))) (sym set) ∙ sym (settings_more m n rest line after is) ∙ before
+pub settings_go : (k : Pass) (m more : Meanings) (n : ℕ) (rest line after : List ℕ) (whole : Result Meanings (LineFault × ℕ)) → lines_of rest ≡ line ∷ lines_of after → is_end line ≡ false
+    → line_settled k m line ≡ Ok more → settings k m n (lines_of rest) ≡ whole → settings k more (n + 1) (lines_of after) ≡ whole
+settings_go k m more n rest line after whole is goes set before =
+    ap (λ (q : Result Meanings LineFault). at_line n q (λ t. settings k t (n + 1) (lines_of after))) (sym set) ∙ sym (settings_more k m n rest line after is goes) ∙ before
 
-pub settings_stop : (m : Meanings) (n : ℕ) (rest line after : List ℕ) (fault : LineFault) (whole : Result Meanings (LineFault × ℕ)) → lines_of rest ≡ line ∷ lines_of after → Told fault (line_settled m line)
-    → settings m n (lines_of rest) ≡ whole → FaultedAt (fault_at fault n) whole
-settings_stop m n rest line after fault whole is told before =
-    told_at fault n (line_settled m line) (λ t. settings t (n + 1) (lines_of after)) whole told (sym (settings_more m n rest line after is) ∙ before)
+pub settings_stop : (k : Pass) (m : Meanings) (n : ℕ) (rest line after : List ℕ) (fault : LineFault) (whole : Result Meanings (LineFault × ℕ)) → lines_of rest ≡ line ∷ lines_of after → is_end line ≡ false
+    → Told fault (line_settled k m line) → settings k m n (lines_of rest) ≡ whole → FaultedAt (fault_at fault n) whole
+settings_stop k m n rest line after fault whole is goes told before =
+    told_at fault n (line_settled k m line) (λ t. settings k t (n + 1) (lines_of after)) whole told (sym (settings_more k m n rest line after is goes) ∙ before)
 
-pub settings_end : (m : Meanings) (n : ℕ) (rest : List ℕ) (whole : Result Meanings (LineFault × ℕ)) → lines_of rest ≡ [] → settings m n (lines_of rest) ≡ whole → whole ≡ Ok m
+pub settings_at_end : (k : Pass) (m : Meanings) (n : ℕ) (rest line after : List ℕ) (whole : Result Meanings (LineFault × ℕ)) → lines_of rest ≡ line ∷ lines_of after → is_end line ≡ true
+    → settings k m n (lines_of rest) ≡ whole → whole ≡ Ok m
 unfolding settings
-settings_end m n rest whole is before = sym before ∙ ap (λ (ls : List (List ℕ)). settings m n ls) is
+settings_at_end k m n rest line after whole is ends before =
+    let here : settings k m n (lines_of rest) ≡ Ok m = rw (is, ends) refl in
+    sym before ∙ here
 
-lines_more : (m : Meanings) (n : ℕ) (done : Plain) (rest line after : List ℕ) → lines_of rest ≡ line ∷ lines_of after
-    → put_lines m n (lines_of rest) done ≡ at_line n (put_next m n line done) (put_lines m (n + 1) (lines_of after))
-unfolding put_lines
-lines_more m n done rest line after is = rw is refl
+pub settings_end : (k : Pass) (m : Meanings) (n : ℕ) (rest : List ℕ) (whole : Result Meanings (LineFault × ℕ)) → lines_of rest ≡ [] → settings k m n (lines_of rest) ≡ whole → whole ≡ Ok m
+unfolding settings
+settings_end k m n rest whole is before = sym before ∙ ap (λ (ls : List (List ℕ)). settings k m n ls) is
 
-pub lines_go : (m : Meanings) (n : ℕ) (done more : Plain) (rest line after : List ℕ) (whole : Result Plain (LineFault × ℕ)) → lines_of rest ≡ line ∷ lines_of after → put_next m n line done ≡ Ok more
-    → put_lines m n (lines_of rest) done ≡ whole → put_lines m (n + 1) (lines_of after) more ≡ whole
-lines_go m n done more rest line after whole is put before =
-    ap (λ (q : Result Plain LineFault). at_line n q (put_lines m (n + 1) (lines_of after))) (sym put) ∙ sym (lines_more m n done rest line after is) ∙ before
+-- lines behind those that are there
+abbrev pub after : Plain → Result Plain (LineFault × ℕ) → Result Plain (LineFault × ℕ)
+after done r = mapped (λ p. record { text = done.text ++ p.text; origins = done.origins ++ p.origins }) r
 
-pub lines_stop : (m : Meanings) (n : ℕ) (done : Plain) (rest line after : List ℕ) (fault : LineFault) (whole : Result Plain (LineFault × ℕ)) → lines_of rest ≡ line ∷ lines_of after → Told fault (put_next m n line done)
-    → put_lines m n (lines_of rest) done ≡ whole → FaultedAt (fault_at fault n) whole
-lines_stop m n done rest line after fault whole is told before =
-    told_at fault n (put_next m n line done) (put_lines m (n + 1) (lines_of after)) whole told (sym (lines_more m n done rest line after is) ∙ before)
+pub after_start : (done : Plain) (r : Result Plain (LineFault × ℕ)) → done.text ≡ [] → done.origins ≡ [] → after done r ≡ r
+after_start done (Ok p) text origins = rw (text, origins) refl
+after_start done (Err fault) text origins = refl
 
-pub lines_end : (m : Meanings) (n : ℕ) (done : Plain) (rest : List ℕ) (whole : Result Plain (LineFault × ℕ)) → lines_of rest ≡ [] → put_lines m n (lines_of rest) done ≡ whole → whole ≡ Ok done
-unfolding put_lines
-lines_end m n done rest whole is before = sym before ∙ ap (λ (ls : List (List ℕ)). put_lines m n ls done) is
+lines_more : (ended below : Bool) (m : Meanings) (n : ℕ) (rest line after : List ℕ) → lines_of rest ≡ line ∷ lines_of after → below ≡ (ended || is_end line)
+    → plain_lines ended m n (lines_of rest) ≡ at_line n (line_text below m line) (λ t. mapped (with_line n t) (plain_lines below m (n + 1) (lines_of after)))
+unfolding plain_lines
+lines_more ended below m n rest line after is now = rw (is, now) refl
+
+one_more : (n : ℕ) (done more : Plain) (t : List ℕ) (r : Result Plain (LineFault × ℕ)) → done.text ++ t ≡ more.text → more.origins ≡ done.origins ++ n ∷ []
+    → after done (mapped (with_line n t) r) ≡ after more r
+one_more n done more t (Ok p) text origins =
+    let text_is = sym (append_assoc done.text t p.text) ∙ ap (λ (x : List ℕ). x ++ p.text) text in
+    let origins_are = sym (append_assoc done.origins (n ∷ []) p.origins) ∙ ap (λ (x : List ℕ). x ++ p.origins) (sym origins) in
+    rw (text_is, origins_are) refl
+one_more n done more t (Err fault) text origins = refl
+
+line_more : (n : ℕ) (done more : Plain) (line : Text) (r : Result Plain (LineFault × ℕ)) → behind done.text line ≡ Ok more.text → more.origins ≡ done.origins ++ n ∷ []
+    → after done (at_line n line (λ t. mapped (with_line n t) r)) ≡ after more r
+line_more n done more (Ok t) r put origins = one_more n done more t r (sym (same_Ok more.text (done.text ++ t) (sym put))) origins
+line_more n done more (Err fault) r put origins = absurd cc
+
+pub lines_go : (ended below : Bool) (m : Meanings) (n : ℕ) (done more : Plain) (rest line next : List ℕ) (whole : Result Plain (LineFault × ℕ)) → lines_of rest ≡ line ∷ lines_of next
+    → below ≡ (ended || is_end line) → behind done.text (line_text below m line) ≡ Ok more.text → more.origins ≡ done.origins ++ n ∷ []
+    → after done (plain_lines ended m n (lines_of rest)) ≡ whole → after more (plain_lines below m (n + 1) (lines_of next)) ≡ whole
+lines_go ended below m n done more rest line next whole is now put origins before =
+    sym (line_more n done more (line_text below m line) (plain_lines below m (n + 1) (lines_of next)) put origins)
+    ∙ sym (ap (after done) (lines_more ended below m n rest line next is now))
+    ∙ before
+
+faulted_after : (done : Plain) (fault : DialectFault) (r whole : Result Plain (LineFault × ℕ)) → FaultedAt fault r → after done r ≡ whole → FaultedAt fault whole
+faulted_after done dialect.Memory r whole told is = tt
+faulted_after done (dialect.Line fault n) r whole told is = sym is ∙ ap (after done) told
+
+pub lines_stop : (ended below : Bool) (m : Meanings) (n : ℕ) (done : Plain) (rest line next : List ℕ) (fault : LineFault) (whole : Result Plain (LineFault × ℕ)) → lines_of rest ≡ line ∷ lines_of next
+    → below ≡ (ended || is_end line) → Told fault (line_text below m line) → after done (plain_lines ended m n (lines_of rest)) ≡ whole → FaultedAt (fault_at fault n) whole
+lines_stop ended below m n done rest line next fault whole is now told before =
+    let here = told_at fault n (line_text below m line) (λ t. mapped (with_line n t) (plain_lines below m (n + 1) (lines_of next))) (plain_lines ended m n (lines_of rest)) told (sym (lines_more ended below m n rest line next is now)) in
+    faulted_after done (fault_at fault n) (plain_lines ended m n (lines_of rest)) whole here before
+
+pub lines_end : (ended : Bool) (m : Meanings) (n : ℕ) (done : Plain) (rest : List ℕ) (whole : Result Plain (LineFault × ℕ)) → lines_of rest ≡ [] → after done (plain_lines ended m n (lines_of rest)) ≡ whole → whole ≡ Ok done
+unfolding plain_lines
+lines_end ended m n done rest whole is before = sym before ∙ ap (λ (ls : List (List ℕ)). after done (plain_lines ended m n ls)) is ∙ rw (append-nil done.text, append-nil done.origins) refl
 
 -- ## The numbers of the lines
 
-with_line : (m : Meanings) (n : ℕ) (ls : List (List ℕ)) (done p : Plain) (r : Result (List ℕ) LineFault)
-    → ((t : List ℕ) → put_lines m (n + 1) ls (record { text = t; origins = done.origins ++ n ∷ [] }) ≡ Ok p → p.origins ≡ (done.origins ++ n ∷ []) ++ range_with_len (n + 1) (length ls))
-    → at_line n (mapped (λ t. record { text = t; origins = done.origins ++ n ∷ [] }) r) (put_lines m (n + 1) ls) ≡ Ok p → p.origins ≡ done.origins ++ n ∷ range_with_len (n + 1) (length ls)
-with_line m n ls done p (Ok t) later is = later t is ∙ append_assoc done.origins (n ∷ []) (range_with_len (n + 1) (length ls))
-with_line m n ls done p (Err fault) later is = absurd cc
+with_rest : (n k : ℕ) (t : List ℕ) (r : Result Plain (LineFault × ℕ)) (p : Plain)
+    → ((q : Plain) → r ≡ Ok q → q.origins ≡ range_with_len (n + 1) k)
+    → mapped (with_line n t) r ≡ Ok p → p.origins ≡ n ∷ range_with_len (n + 1) k
+with_rest n k t (Ok q) p later is = ap (λ (x : Plain). x.origins) (same_Ok p (with_line n t q) (sym is)) ∙ ap (λ (ns : List ℕ). n ∷ ns) (later q refl)
+with_rest n k t (Err fault) p later is = absurd cc
 
-origins_from : (m : Meanings) (n : ℕ) (ls : List (List ℕ)) (done p : Plain) → put_lines m n ls done ≡ Ok p → p.origins ≡ done.origins ++ range_with_len n (length ls)
-unfolding put_lines
-origins_from m n [] done p is = ap (λ (q : Plain). q.origins) (same_Ok p done (sym is)) ∙ sym (append-nil done.origins)
-origins_from m n (l ∷ ls) done p is =
-    with_line m n ls done p (put_line m l done.text) (λ t. origins_from m (n + 1) ls (record { text = t; origins = done.origins ++ n ∷ [] }) p) is
+with_next : (n k : ℕ) (line : Text) (r : Result Plain (LineFault × ℕ)) (p : Plain)
+    → ((q : Plain) → r ≡ Ok q → q.origins ≡ range_with_len (n + 1) k)
+    → at_line n line (λ t. mapped (with_line n t) r) ≡ Ok p → p.origins ≡ n ∷ range_with_len (n + 1) k
+with_next n k (Ok t) r p later is = with_rest n k t r p later is
+with_next n k (Err fault) r p later is = absurd cc
+
+origins_from : (ended : Bool) (m : Meanings) (n : ℕ) (ls : List (List ℕ)) (p : Plain) → plain_lines ended m n ls ≡ Ok p → p.origins ≡ range_with_len n (length ls)
+unfolding plain_lines
+origins_from ended m n [] p is = ap (λ (q : Plain). q.origins) (same_Ok p no_lines (sym is))
+origins_from ended m n (l ∷ ls) p is =
+    with_next n (length ls) (line_text (ended || is_end l) m l) (plain_lines (ended || is_end l) m (n + 1) ls) p (origins_from (ended || is_end l) m (n + 1) ls) is
 
 numbered : (r : Result Meanings (LineFault × ℕ)) (ls : List (List ℕ)) (p : Plain) → then_lines r ls ≡ Ok p → p.origins ≡ range_with_len 1 (length ls)
-numbered (Ok m) ls p is = origins_from m 1 ls no_lines p is
+numbered (Ok m) ls p is = origins_from false m 1 ls p is
 numbered (Err fault) ls p is = absurd cc
 
 pub ok_numbered : (source : List ℕ) (r : Result PlainSource DialectFault) → IfOk r (λ p. translated source ≡ Ok (plain_of p)) → IfOk r (λ p. p.origins.items ≡ range_with_len 1 (length (lines_of source)))
-ok_numbered source (Ok p) is = numbered (settings no_meanings 1 (lines_of source)) (lines_of source) (plain_of p) is
+ok_numbered source (Ok p) is = numbered (meanings_in (lines_of source)) (lines_of source) (plain_of p) is
 ok_numbered source (Err fault) is = tt

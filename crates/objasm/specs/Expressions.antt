@@ -1,12 +1,14 @@
 -- Expressions as trees, how a tree is written, and its value.
 use Rattle.std.specs.Prelude.{◌≡◌, ℕ, nat_lt, nat_le, true, List, [], ◌∷◌, ◌++◌, Option, Some, None}
 use Rattle.objasm.specs.Operators.{binary_value, level, unary_value}
+use Rattle.objasm.specs.declared.operators.Value.{Value}
+use Rattle.objasm.specs.declared.operators.Value.TheVariants as values
 use Rattle.objasm.specs.declared.operators.Binary.{Binary}
 use Rattle.objasm.specs.declared.operators.Binary.TheVariants.{Plus, Minus}
 use Rattle.objasm.specs.declared.operators.Unary.{Unary}
-use Rattle.objasm.specs.declared.operators.Unary.TheVariants.{Keep, Negate, Invert}
+use Rattle.objasm.specs.declared.operators.Unary.TheVariants.{Keep, Negate, Invert, Deny}
 use Rattle.objasm.specs.declared.symbols.Symbol.{Symbol}
-use Rattle.objasm.specs.declared.symbols.Symbol.TheVariants.{Number, Operator, Not, Open, Close}
+use Rattle.objasm.specs.declared.symbols.Symbol.TheVariants.{Number, Operator, Not, LogicalNot, Open, Close}
 
 -- a number, an expression in parentheses, an operator in front of one, or one between two
 pub data Expression : Type 0 where
@@ -20,6 +22,7 @@ abbrev pub unary_symbol : Unary → Symbol
 unary_symbol Keep = Operator Plus
 unary_symbol Negate = Operator Minus
 unary_symbol Invert = Not
+unary_symbol Deny = LogicalNot
 
 abbrev pub symbols_of : Expression → List Symbol
 symbols_of (Lone n) = Number n ∷ []
@@ -43,17 +46,17 @@ IsGrouped (Between b left right) =
 
 -- of values, none after a division by 0
 
-abbrev pub applied : Unary → Option ℕ → Option ℕ
+abbrev pub applied : Unary → Option Value → Option Value
 applied u None = None
-applied u (Some a) = Some (unary_value u a)
+applied u (Some a) = unary_value u a
 
-abbrev pub between : Binary → Option ℕ → Option ℕ → Option ℕ
+abbrev pub between : Binary → Option Value → Option Value → Option Value
 between b (Some x) (Some y) = binary_value b x y
 between b _ _ = None
 
--- the value of an expression, none where it divides by 0
-abbrev pub value : Expression → Option ℕ
-value (Lone n) = Some n
+-- the value of an expression, none where it divides by 0 or an operator is for values of other kinds
+abbrev pub value : Expression → Option Value
+value (Lone n) = Some (values.Number n)
 value (Group e) = value e
 value (Applied u e) = applied u (value e)
 value (Between b left right) = between b (value left) (value right)

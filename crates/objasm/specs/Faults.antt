@@ -3,7 +3,8 @@ use Rattle.std.specs.Prelude.{ℕ, List, codes}
 use Rattle.objasm.specs.declared.faults.LineFault.{LineFault}
 use Rattle.objasm.specs.declared.faults.LineFault.TheVariants.{Memory, UnknownDirective, BadName, NameTwice}
 use Rattle.objasm.specs.declared.faults.LineFault.TheVariants.{NameMissing, BadExpression, BadNumber}
-use Rattle.objasm.specs.declared.faults.LineFault.TheVariants.{NoValue, BadRegister}
+use Rattle.objasm.specs.declared.faults.LineFault.TheVariants.{NoValue, BadRegister, BadOperand, NotANumber, NotLogical}
+use Rattle.objasm.specs.declared.faults.LineFault.TheVariants.{AssertionFailed}
 
 abbrev pub name : LineFault → List ℕ
 name Memory = codes "Memory"
@@ -15,3 +16,7 @@ name BadExpression = codes "BadExpression"
 name BadNumber = codes "BadNumber"
 name NoValue = codes "NoValue"
 name BadRegister = codes "BadRegister"
+name BadOperand = codes "BadOperand"
+name NotANumber = codes "NotANumber"
+name NotLogical = codes "NotLogical"
+name AssertionFailed = codes "AssertionFailed"

@@ -5,26 +5,40 @@ use Rattle.std.specs.Prelude.{option_map, Result, Ok, Err, if◌then◌else◌}
 use Rattle.std.specs.Str.{bytes_eq}
 use Rattle.asm_text.specs.Registers.{register_of}
 use Rattle.objasm.specs.Evaluation.{evaluated}
-use Rattle.objasm.specs.Names.{Meanings, and_then, is_set, mapped, with_meaning}
+use Rattle.objasm.specs.Names.{Meanings, and_then, is_known, is_set, mapped, with_meaning, with_waiting}
 use Rattle.objasm.specs.Parts.{Part, Run, Byte, after_blanks, part_of}
 use Rattle.objasm.specs.Symbols.{begins_number, symbols_in}
 use Rattle.objasm.specs.declared.faults.LineFault.{LineFault}
 use Rattle.objasm.specs.declared.faults.LineFault.TheVariants.{BadExpression, NoValue, BadName}
 use Rattle.objasm.specs.declared.faults.LineFault.TheVariants.{NameTwice}
-use Rattle.objasm.specs.declared.faults.LineFault.TheVariants.{BadRegister}
+use Rattle.objasm.specs.declared.faults.LineFault.TheVariants.{BadRegister, NotANumber, NotLogical}
+use Rattle.objasm.specs.declared.faults.LineFault.TheVariants.{NameMissing}
 use Rattle.objasm.specs.declared.names.Kind.{Kind}
 use Rattle.objasm.specs.declared.names.Kind.TheVariants.{Constant, Register}
+use Rattle.objasm.specs.declared.operators.Value.{Value}
+use Rattle.objasm.specs.declared.operators.Value.TheVariants.{Number, Logical}
 use Rattle.objasm.specs.declared.settings.Setting.{Setting as CodeSetting}
 use Rattle.objasm.specs.declared.symbols.Reading.TheVariants.{Ready}
 
-abbrev pub outcome : Option (Option ℕ) → Result ℕ LineFault
-outcome (Some (Some n)) = Ok n
+abbrev pub outcome : Option (Option Value) → Result ℕ LineFault
+outcome (Some (Some (Number n))) = Ok n
+outcome (Some (Some (Logical b))) = Err NotANumber
 outcome (Some None) = Err NoValue
 outcome None = Err BadExpression
 
 -- the value of the expression that parts are
 abbrev pub value_of : Meanings → List Part → Result ℕ LineFault
 value_of m ps = and_then (λ ss. outcome (evaluated ss)) (symbols_in m Ready ps)
+
+abbrev pub truth : Option (Option Value) → Result Bool LineFault
+truth (Some (Some (Logical b))) = Ok b
+truth (Some (Some (Number n))) = Err NotLogical
+truth (Some None) = Err NoValue
+truth None = Err BadExpression
+
+-- whether the expression that parts are holds
+abbrev pub truth_of : Meanings → List Part → Result Bool LineFault
+truth_of m ps = and_then (λ ss. truth (evaluated ss)) (symbols_in m Ready ps)
 
 pub record Setting : Type 0 where
   pub name : List ℕ
@@ -65,10 +79,26 @@ setting_value m s =
     else if is_set m s.name then Err NameTwice
     else and_then (allowed s.kind) (value_of m s.value)
 
+-- a name whose value needs one that is not known waits for it
+abbrev pub set_or_waits : Meanings → Setting → Result ℕ LineFault → Result Meanings LineFault
+set_or_waits m s (Ok n) = Ok (with_meaning s.name s.kind n m)
+set_or_waits m s (Err NameMissing) = Ok (with_waiting s.name m)
+set_or_waits m s (Err fault) = Err fault
+
 abbrev pub set_by : Meanings → Option Setting → Result Meanings LineFault
 set_by m None = Ok m
-set_by m (Some s) = mapped (λ n. with_meaning s.name s.kind n m) (setting_value m s)
+set_by m (Some s) = set_or_waits m s (setting_value m s)
 
--- the meanings after a line
+-- the meanings after a line, when it is read first
 abbrev pub settled : Meanings → List Part → Result Meanings LineFault
 settled m ps = set_by m (setting_of ps)
+
+abbrev pub set_again : Meanings → Option Setting → Result Meanings LineFault
+set_again m None = Ok m
+set_again m (Some s) =
+    if is_known m s.name then Ok m
+    else mapped (λ n. with_meaning s.name s.kind n m) (and_then (allowed s.kind) (value_of m s.value))
+
+-- the meanings after a line that is read again: it sets the name that waited
+abbrev pub settled_again : Meanings → List Part → Result Meanings LineFault
+settled_again m ps = set_again m (setting_of ps)

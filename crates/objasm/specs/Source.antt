@@ -1,17 +1,22 @@
 -- A whole source: the names that its lines set, and what stands for each of its lines.
-use Rattle.std.specs.Prelude.{◌≡◌, ◌==◌, ◌+◌, not, ℕ, List, [], ◌∷◌, ◌++◌, codes, take, Result, Ok, Err}
-use Rattle.std.specs.Prelude.{if◌then◌else◌}
-use Rattle.std.specs.List.{prefix_len}
+use Rattle.std.specs.Prelude.{◌≡◌, ◌==◌, ◌&&◌, ◌||◌, ◌+◌, ◌-◌, not, ℕ, Bool, false, List, [], ◌∷◌, ◌++◌}
+use Rattle.std.specs.Prelude.{codes, length, take, drop}
+use Rattle.std.specs.Prelude.{Result, Ok, Err, if◌then◌else◌}
+use Rattle.std.specs.Char.{is_ascii_whitespace}
+use Rattle.std.specs.List.{prefix_len, suffix_len}
 use Rattle.std.specs.Str.{bytes_eq}
+use Rattle.asm_text.specs.Pieces.{first_blank}
 use Rattle.asm_text.specs.Source.{lines_of}
-use Rattle.objasm.specs.Names.{Meanings, mapped, no_meanings}
+use Rattle.objasm.specs.Names.{Meanings, and_then, mapped, no_meanings}
 use Rattle.objasm.specs.Parts.{parts}
-use Rattle.objasm.specs.PlainLines.{put_body}
-use Rattle.objasm.specs.Settings.{settled}
+use Rattle.objasm.specs.PlainLines.{Text, body_text}
+use Rattle.objasm.specs.Settings.{settled, settled_again}
 use Rattle.objasm.specs.declared.faults.LineFault.{LineFault}
 use Rattle.objasm.specs.declared.faults.LineFault.TheVariants as line
 use Rattle.objasm.specs.declared.source.DialectFault.{DialectFault}
 use Rattle.objasm.specs.declared.source.DialectFault.TheVariants.{Memory, Line}
+use Rattle.objasm.specs.declared.source.Pass.{Pass}
+use Rattle.objasm.specs.declared.source.Pass.TheVariants.{First, Second}
 use Rattle.objasm.specs.declared.source.PlainSource.{PlainSource}
 
 -- ## A line
@@ -23,17 +28,36 @@ body_len text = prefix_len (λ b. not (b == 59)) text
 abbrev pub body : List ℕ → List ℕ
 body text = take (body_len text) text
 
-abbrev pub line_settled : Meanings → List ℕ → Result Meanings LineFault
-line_settled m text = settled m (parts (body text))
+-- by the time that it is read for the names
+abbrev pub line_settled : Pass → Meanings → List ℕ → Result Meanings LineFault
+line_settled First m text = settled m (parts (body text))
+line_settled Second m text = settled_again m (parts (body text))
 
--- the line itself, where that is what stands for it, else that, and the line as a comment behind it
+-- without the white space at its end
+abbrev pub trimmed : List ℕ → List ℕ
+trimmed text = take (length text - suffix_len is_ascii_whitespace text) text
+
+-- without the white space round it
+abbrev pub stripped : List ℕ → List ℕ
+stripped text = trimmed (drop (prefix_len is_ascii_whitespace text) text)
+
+-- `END` alone, behind a blank: the lines below it are comments
+abbrev pub is_end : List ℕ → Bool
+is_end text = first_blank text && bytes_eq (stripped (body text)) (codes "END")
+
+-- the line itself, where but for blanks that is what stands for it, else that, and the line as a comment
+-- behind it
 abbrev pub shown_line : (plain text : List ℕ) → List ℕ
-shown_line plain text = if bytes_eq plain (body text) then text else plain ++ (codes " ; " ++ text)
+shown_line plain text =
+    if bytes_eq (trimmed plain) (trimmed (body text)) then text else trimmed plain ++ (codes " ; " ++ text)
 
--- the text so far, and after it what is shown of a line, and an LF
-abbrev pub put_line : Meanings → List ℕ → List ℕ → Result (List ℕ) LineFault
-put_line m text done =
-    mapped (λ plain. (done ++ shown_line plain text) ++ 10 ∷ []) (put_body m (parts (body text)) [])
+-- what stands for a line, that at the end or below it aside, for which nothing does
+abbrev pub plain_body : Bool → Meanings → List ℕ → Text
+plain_body ended m text = if ended then Ok [] else body_text m (parts (body text))
+
+-- what is shown of a line, and an LF
+abbrev pub line_text : Bool → Meanings → List ℕ → Text
+line_text ended m text = mapped (λ plain. shown_line plain text ++ 10 ∷ []) (plain_body ended m text)
 
 -- ## All lines
 
@@ -44,9 +68,15 @@ at_line n (Ok a) f = f a
 at_line n (Err fault) f = Err (fault, n)
 
 -- the meanings after lines, of which the first has this number
-unfoldable pub settings : Meanings → ℕ → List (List ℕ) → Result Meanings (LineFault × ℕ)
-settings m n [] = Ok m
-settings m n (l ∷ ls) = at_line n (line_settled m l) (λ more. settings more (n + 1) ls)
+unfoldable pub settings : Pass → Meanings → ℕ → List (List ℕ) → Result Meanings (LineFault × ℕ)
+settings pass m n [] = Ok m
+settings pass m n (l ∷ ls) =
+    if is_end l then Ok m else at_line n (line_settled pass m l) (λ more. settings pass more (n + 1) ls)
+
+-- what the names of all lines mean: a name may be used above the line that sets it, also by a line that sets
+-- another, which is then read again
+abbrev pub meanings_in : List (List ℕ) → Result Meanings (LineFault × ℕ)
+meanings_in ls = and_then (λ m. settings Second m 1 ls) (settings First no_meanings 1 ls)
 
 -- lines of our grammar, each ended by LF, and the number of the line that each comes from
 pub record Plain : Type 0 where
@@ -59,22 +89,23 @@ plain_of p = record { text = p.text.items; origins = p.origins.items }
 abbrev pub no_lines : Plain
 no_lines = record { text = []; origins = [] }
 
--- a line more
-abbrev pub put_next : Meanings → ℕ → List ℕ → Plain → Result Plain LineFault
-put_next m n l done =
-    mapped (λ t. record { text = t; origins = done.origins ++ n ∷ [] }) (put_line m l done.text)
+abbrev pub with_line : ℕ → List ℕ → Plain → Plain
+with_line n text p = record { text = text ++ p.text; origins = n ∷ p.origins }
 
-unfoldable pub put_lines : Meanings → ℕ → List (List ℕ) → Plain → Result Plain (LineFault × ℕ)
-put_lines m n [] done = Ok done
-put_lines m n (l ∷ ls) done = at_line n (put_next m n l done) (put_lines m (n + 1) ls)
+-- what stands for lines, of which the first has this number, at the end of the source or before it
+unfoldable pub plain_lines : Bool → Meanings → ℕ → List (List ℕ) → Result Plain (LineFault × ℕ)
+plain_lines ended m n [] = Ok no_lines
+plain_lines ended m n (l ∷ ls) =
+    let below = ended || is_end l in
+    at_line n (line_text below m l) (λ t. mapped (with_line n t) (plain_lines below m (n + 1) ls))
 
 abbrev pub then_lines : Result Meanings (LineFault × ℕ) → List (List ℕ) → Result Plain (LineFault × ℕ)
-then_lines (Ok m) ls = put_lines m 1 ls no_lines
+then_lines (Ok m) ls = plain_lines false m 1 ls
 then_lines (Err fault) ls = Err fault
 
 -- what all lines set is known in each that sets nothing
 abbrev pub translated : List ℕ → Result Plain (LineFault × ℕ)
-translated source = then_lines (settings no_meanings 1 (lines_of source)) (lines_of source)
+translated source = then_lines (meanings_in (lines_of source)) (lines_of source)
 
 -- ## Refusals
 

@@ -2,7 +2,7 @@
 use Rattle.std.specs.Prelude.{◌==◌, ◌||◌, ℕ, Bool, false, List, [], ◌∷◌, codes, Option, Some, None}
 use Rattle.std.specs.Prelude.{Result, Ok, Err, if◌then◌else◌}
 use Rattle.std.specs.Char.{is_ascii_digit}
-use Rattle.std.specs.List.{cons_option}
+use Rattle.std.specs.List.{cons_option, list_any}
 use Rattle.std.specs.Option.{ok_or}
 use Rattle.std.specs.Str.{bytes_eq}
 use Rattle.asm_text.specs.Numbers.{number_by}
@@ -13,12 +13,16 @@ use Rattle.objasm.specs.declared.faults.LineFault.{LineFault}
 use Rattle.objasm.specs.declared.faults.LineFault.TheVariants.{BadExpression, BadNumber, NameMissing}
 use Rattle.objasm.specs.declared.operators.Binary.TheVariants.{Times, Over, Mod, Shl, Shr, Rol, Ror, Plus}
 use Rattle.objasm.specs.declared.operators.Binary.TheVariants.{Minus}
-use Rattle.objasm.specs.declared.operators.Binary.TheVariants.{And, Or, Eor}
+use Rattle.objasm.specs.declared.operators.Binary.TheVariants.{And, Or, Eor, Equal, Unequal, AtMost}
+use Rattle.objasm.specs.declared.operators.Binary.TheVariants.{AtLeast, Both, Either, OneAlone}
+use Rattle.objasm.specs.declared.operators.Binary.TheVariants as binary
+use Rattle.objasm.specs.declared.operators.Binary.{Binary}
 use Rattle.objasm.specs.declared.symbols.Reading.{Reading}
-use Rattle.objasm.specs.declared.symbols.Reading.TheVariants.{Ready, Hex, Less, Greater, Colon, Named}
-use Rattle.objasm.specs.declared.symbols.Reading.TheVariants.{Quote, Quoted}
+use Rattle.objasm.specs.declared.symbols.Reading.TheVariants.{Ready, Hex, Slash, Less, Greater, Colon}
+use Rattle.objasm.specs.declared.symbols.Reading.TheVariants.{Named, Quote, Quoted}
 use Rattle.objasm.specs.declared.symbols.Symbol.{Symbol}
-use Rattle.objasm.specs.declared.symbols.Symbol.TheVariants.{Number, Operator, Not, Open, Close}
+use Rattle.objasm.specs.declared.symbols.Symbol.TheVariants.{Number, Operator, Not, LogicalNot, Open}
+use Rattle.objasm.specs.declared.symbols.Symbol.TheVariants.{Close}
 
 -- the operators with names, which stand between two colons
 abbrev pub operator_named : List ℕ → Option Symbol
@@ -32,6 +36,10 @@ operator_named name =
     else if bytes_eq name (codes "OR") then Some (Operator Or)
     else if bytes_eq name (codes "EOR") then Some (Operator Eor)
     else if bytes_eq name (codes "NOT") then Some Not
+    else if bytes_eq name (codes "LAND") then Some (Operator Both)
+    else if bytes_eq name (codes "LOR") then Some (Operator Either)
+    else if bytes_eq name (codes "LEOR") then Some (Operator OneAlone)
+    else if bytes_eq name (codes "LNOT") then Some LogicalNot
     else None
 
 abbrev pub begins_number : List ℕ → Bool
@@ -64,18 +72,28 @@ after_run m Colon run = and_then (λ s. begun (Named s)) (ok_or (operator_named 
 after_run m Quote run = quoted run
 after_run m _ run = Err BadExpression
 
-abbrev pub sign : ℕ → Step
-sign b =
+-- the next part is one of these bytes
+abbrev pub goes_on : List ℕ → List Part → Bool
+goes_on bytes (Byte b ∷ ps) = list_any (λ x. x == b) bytes
+goes_on bytes _ = false
+
+-- a sign of one byte, where no byte after it makes it another
+abbrev pub sign_or : Binary → Reading → Bool → Step
+sign_or alone r is_begun = if is_begun then begun r else whole (Operator alone)
+
+abbrev pub sign : ℕ → List Part → Step
+sign b ps =
     if b == 32 || b == 9 then begun Ready
     else if b == 43 then whole (Operator Plus)
     else if b == 45 then whole (Operator Minus)
     else if b == 42 then whole (Operator Times)
-    else if b == 47 then whole (Operator Over)
+    else if b == 47 then sign_or Over Slash (goes_on (codes "=") ps)
+    else if b == 61 then whole (Operator Equal)
     else if b == 40 then whole Open
     else if b == 41 then whole Close
     else if b == 38 then begun Hex
-    else if b == 60 then begun Less
-    else if b == 62 then begun Greater
+    else if b == 60 then sign_or binary.Less Less (goes_on (codes "<=>") ps)
+    else if b == 62 then sign_or binary.Greater Greater (goes_on (codes "=>") ps)
     else if b == 58 then begun Colon
     else if b == 39 then begun Quote
     else Err BadExpression
@@ -83,18 +101,34 @@ sign b =
 abbrev pub at_last : ℕ → ℕ → Symbol → Step
 at_last b last s = if b == last then whole s else Err BadExpression
 
-abbrev pub after_byte : Reading → ℕ → Step
-after_byte Ready b = sign b
-after_byte Less b = at_last b 60 (Operator Shl)
-after_byte Greater b = at_last b 62 (Operator Shr)
-after_byte (Named s) b = at_last b 58 s
-after_byte Quote b = begun (Quoted b)
-after_byte (Quoted c) b = at_last b 39 (Number c)
-after_byte _ b = Err BadExpression
+-- the signs of two bytes that begin with `<`, and those with `>`
 
-abbrev pub reading_step : Meanings → Reading → Part → Step
-reading_step m reading (Run r) = after_run m reading r
-reading_step m reading (Byte b) = after_byte reading b
+abbrev pub after_less : ℕ → Step
+after_less b =
+    if b == 60 then whole (Operator Shl)
+    else if b == 61 then whole (Operator AtMost)
+    else if b == 62 then whole (Operator Unequal)
+    else Err BadExpression
+
+abbrev pub after_greater : ℕ → Step
+after_greater b =
+    if b == 62 then whole (Operator Shr) else if b == 61 then whole (Operator AtLeast) else Err BadExpression
+
+abbrev pub after_byte : Reading → ℕ → List Part → Step
+after_byte Ready b ps = sign b ps
+after_byte Slash b ps = at_last b 61 (Operator Unequal)
+after_byte Less b ps = after_less b
+after_byte Greater b ps = after_greater b
+after_byte (Named s) b ps = at_last b 58 s
+after_byte Quote b ps = begun (Quoted b)
+after_byte (Quoted c) b ps = at_last b 39 (Number c)
+after_byte _ b ps = Err BadExpression
+
+-- the first part of some, read
+abbrev pub reading_step : Meanings → Reading → List Part → Step
+reading_step m reading [] = Err BadExpression
+reading_step m reading (Run r ∷ ps) = after_run m reading r
+reading_step m reading (Byte b ∷ ps) = after_byte reading b ps
 
 abbrev pub no_more : Reading → Result (List Symbol) LineFault
 no_more Ready = Ok []
@@ -104,4 +138,4 @@ no_more _ = Err BadExpression
 unfoldable pub symbols_in : Meanings → Reading → List Part → Result (List Symbol) LineFault
 symbols_in m reading [] = no_more reading
 symbols_in m reading (p ∷ ps) =
-    and_then (λ f. mapped (λ ss. cons_option f.0 ss) (symbols_in m f.1 ps)) (reading_step m reading p)
+    and_then (λ f. mapped (λ ss. cons_option f.0 ss) (symbols_in m f.1 ps)) (reading_step m reading (p ∷ ps))

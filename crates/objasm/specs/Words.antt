@@ -10,18 +10,29 @@ use Rattle.objasm.specs.declared.words.Operands.TheVariants.{Values, Offsets, Ot
 abbrev pub is_one_of : List (List ℕ) → List ℕ → Bool
 is_one_of words word = list_any (λ known. bytes_eq known word) words
 
+-- directives that stand for nothing here: they name areas, entries and symbols for a linker, and print
+abbrev pub silent : List (List ℕ)
+silent =
+    codes "AREA" ∷ codes "ENTRY" ∷ codes "EXPORT" ∷ codes "KEEP" ∷ codes "OPT" ∷ codes "SUBT" ∷ codes "TTL"
+    ∷ []
+
+abbrev pub is_silent : List ℕ → Bool
+is_silent word = is_one_of silent word
+
+abbrev pub is_assert : List ℕ → Bool
+is_assert word = bytes_eq word (codes "ASSERT")
+
 -- directives that are not translated
 abbrev pub directives : List (List ℕ)
 directives =
-    codes "ADRL" ∷ codes "ALIGN" ∷ codes "AOF" ∷ codes "AOUT" ∷ codes "AREA" ∷ codes "ASSERT"
-    ∷ codes "BIN" ∷ codes "CN" ∷ codes "CP" ∷ codes "DATA" ∷ codes "DCB" ∷ codes "DCFD" ∷ codes "DCFS"
-    ∷ codes "DCW" ∷ codes "ELSE" ∷ codes "END" ∷ codes "ENDIF" ∷ codes "ENTRY" ∷ codes "EQU"
-    ∷ codes "EXPORT" ∷ codes "FN" ∷ codes "GBLA" ∷ codes "GBLL" ∷ codes "GBLS" ∷ codes "GET"
+    codes "ADRL" ∷ codes "ALIGN" ∷ codes "AOF" ∷ codes "AOUT" ∷ codes "BIN" ∷ codes "CN" ∷ codes "CP"
+    ∷ codes "DATA" ∷ codes "DCB" ∷ codes "DCFD" ∷ codes "DCFS" ∷ codes "DCW" ∷ codes "ELSE" ∷ codes "END"
+    ∷ codes "ENDIF" ∷ codes "EQU" ∷ codes "FN" ∷ codes "GBLA" ∷ codes "GBLL" ∷ codes "GBLS" ∷ codes "GET"
     ∷ codes "GLOBAL" ∷ codes "IF" ∷ codes "IMPORT" ∷ codes "INCBIN" ∷ codes "INCLUDE" ∷ codes "INFO"
-    ∷ codes "KEEP" ∷ codes "LCLA" ∷ codes "LCLL" ∷ codes "LCLS" ∷ codes "LEAF" ∷ codes "LIB" ∷ codes "LNK"
-    ∷ codes "LTORG" ∷ codes "MACRO" ∷ codes "MEND" ∷ codes "MEXIT" ∷ codes "NOFP"
-    ∷ codes "OPT" ∷ codes "RLIST" ∷ codes "RN" ∷ codes "ROUT" ∷ codes "SETA" ∷ codes "SETL" ∷ codes "SETS"
-    ∷ codes "SPACE" ∷ codes "STRONG" ∷ codes "SUBT" ∷ codes "TTL" ∷ codes "WEND" ∷ codes "WHILE" ∷ []
+    ∷ codes "LCLA" ∷ codes "LCLL" ∷ codes "LCLS" ∷ codes "LEAF" ∷ codes "LIB" ∷ codes "LNK" ∷ codes "LTORG"
+    ∷ codes "MACRO" ∷ codes "MEND" ∷ codes "MEXIT" ∷ codes "NOFP" ∷ codes "RLIST" ∷ codes "RN"
+    ∷ codes "ROUT" ∷ codes "SETA" ∷ codes "SETL" ∷ codes "SETS" ∷ codes "SPACE" ∷ codes "STRONG"
+    ∷ codes "WEND" ∷ codes "WHILE" ∷ []
 
 abbrev pub is_directive : List ℕ → Bool
 is_directive word = is_one_of directives word

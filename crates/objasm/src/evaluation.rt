@@ -3,20 +3,20 @@ ghost use Rattle.objasm.specs.Evaluation.{evaluated, finished, first, is_ready, 
 ghost use Rattle.objasm.specs.Evaluation.{reduced, released, step, unary_of};
 ghost use Rattle.objasm.specs.Expressions.{applied, between};
 
-use crate::operators::{Binary, Unary, binary_value, level, unary_value};
+use crate::operators::{Binary, Unary, Value, binary_value, level, unary_value};
 use crate::symbols::Symbol;
 use std::alloc::{AllocError, Global};
 
 // The level up to which an end or a `)` applies all.
-const ALL: u32 = 3;
+const ALL: u32 = 5;
 
-/// What waits for the value to its right. A value is none after a division by 0.
+/// What waits for the value to its right. A value is none where an operator gives none.
 #[derive(Clone, Copy)]
 pub enum Waiting {
     /// An operator in front of the value.
     Before(Unary),
     /// A value, and the operator behind it.
-    Between(Option<u32>, Binary),
+    Between(Option<Value>, Binary),
     /// A `(`.
     Opened,
 }
@@ -27,19 +27,19 @@ pub enum Place {
     /// A value.
     Expects,
     /// An operator or an end: there is a value.
-    Has(Option<u32>),
+    Has(Option<Value>),
 }
 
-fn applied(operator: Unary, a: Option<u32>) -> Option<u32>
+fn applied(operator: Unary, a: Option<Value>) -> Option<Value>
     ensures { result ≡ applied operator a }
 {
     match a {
-        Some(a) => Some(unary_value(operator, a)),
+        Some(a) => unary_value(operator, a),
         None => None,
     }
 }
 
-fn between(operator: Binary, a: Option<u32>, b: Option<u32>) -> Option<u32>
+fn between(operator: Binary, a: Option<Value>, b: Option<Value>) -> Option<Value>
     ensures { result ≡ between operator a b }
 {
     match a {
@@ -63,7 +63,7 @@ fn is_ready(waiting: Waiting, by: u32) -> bool
 }
 
 // The value, once what waits for it is applied.
-fn released(waiting: Waiting, value: Option<u32>) -> Option<u32>
+fn released(waiting: Waiting, value: Option<Value>) -> Option<Value>
     ensures { result ≡ released waiting value }
 {
     match waiting {
@@ -84,7 +84,7 @@ fn last(stack: &[Waiting]) -> Option<Waiting>
 }
 
 // Applies all of the level or below.
-fn reduce(stack: &mut Vec<Waiting>, by: u32, value: Option<u32>) -> Option<u32>
+fn reduce(stack: &mut Vec<Waiting>, by: u32, value: Option<Value>) -> Option<Value>
     ensures { reduced by (reverse stack.old.items) value ≡ (reverse stack.new.items, result) }
 {
     let mut value = value;
@@ -105,6 +105,7 @@ fn unary_of(symbol: Symbol) -> Option<Unary>
         Symbol::Operator(Binary::Plus) => Some(Unary::Keep),
         Symbol::Operator(Binary::Minus) => Some(Unary::Negate),
         Symbol::Not => Some(Unary::Invert),
+        Symbol::LogicalNot => Some(Unary::Deny),
         _ => None,
     }
 }
@@ -115,7 +116,7 @@ fn operand(stack: &mut Vec<Waiting>, symbol: Symbol) -> Result<Option<Place>, Al
         operand (reverse stack.old.items) symbol ≡ option_map (λ p. (reverse stack.new.items, p)) place) }
 {
     match symbol {
-        Symbol::Number(n) => Ok(Some(Place::Has(Some(n)))),
+        Symbol::Number(n) => Ok(Some(Place::Has(Some(Value::Number(n))))),
         Symbol::Open => {
             stack.push(Waiting::Opened)?;
             Ok(Some(Place::Expects))
@@ -133,7 +134,7 @@ fn operand(stack: &mut Vec<Waiting>, symbol: Symbol) -> Result<Option<Place>, Al
 // Puts a symbol after a value. None where it does not follow one.
 fn operator(
     stack: &mut Vec<Waiting>,
-    value: Option<u32>,
+    value: Option<Value>,
     symbol: Symbol,
 ) -> Result<Option<Place>, AllocError>
     ensures { IfOk result (λ place.
@@ -168,7 +169,7 @@ fn step(stack: &mut Vec<Waiting>, place: Place, symbol: Symbol) -> Result<Option
 }
 
 // The value at the end of the symbols.
-fn finished(stack: &mut Vec<Waiting>, place: Place) -> Option<Option<u32>>
+fn finished(stack: &mut Vec<Waiting>, place: Place) -> Option<Option<Value>>
     ensures { result ≡ finished (reverse stack.old.items) place }
 {
     match place {
@@ -180,11 +181,11 @@ fn finished(stack: &mut Vec<Waiting>, place: Place) -> Option<Option<u32>>
     }
 }
 
-/// The value of the expression that the symbols are, none where it divides by 0. None where they are none.
+/// The value of the expression that the symbols are, none where an operator gives none. None where they are none.
 pub(crate) fn evaluated(
     alloc: Global,
     symbols: &[Symbol],
-) -> Result<Option<Option<u32>>, AllocError>
+) -> Result<Option<Option<Value>>, AllocError>
     ensures { IfOk result (λ found. found ≡ evaluated symbols.now) }
 {
     let mut stack = Vec::new(alloc);

@@ -20,7 +20,7 @@ pub enum LineFault {
     /// A name that is set before, or the label of a line that is a name set.
     #[error("NameTwice")]
     NameTwice,
-    /// A name in an expression that no line sets, or in a line that sets a name none above it.
+    /// A name in an expression that no line sets, or in a line that sets a name none whose value is known.
     #[error("NameMissing")]
     NameMissing,
     /// What stands for a number is no expression.
@@ -29,12 +29,25 @@ pub enum LineFault {
     /// Digits that are no number below 2^32.
     #[error("BadNumber")]
     BadNumber,
-    /// A division by 0 or with a number of 2^31 or more, or a shift by 32 places or more.
+    /// A division by 0 or with a number of 2^31 or more, a shift by 32 places or more, or an operator between
+    /// values that it is not for.
     #[error("NoValue")]
     NoValue,
     /// A register of a number above 15.
     #[error("BadRegister")]
     BadRegister,
+    /// Operands behind a word that takes none.
+    #[error("BadOperand")]
+    BadOperand,
+    /// The value of a comparison where a number stands.
+    #[error("NotANumber")]
+    NotANumber,
+    /// A number where the value of a comparison is wanted.
+    #[error("NotLogical")]
+    NotLogical,
+    /// What is asserted does not hold.
+    #[error("AssertionFailed")]
+    AssertionFailed,
 }
 
 impl From<AllocError> for LineFault {
@@ -68,6 +81,10 @@ impl LineFault {
             LineFault::BadNumber => b"BadNumber",
             LineFault::NoValue => b"NoValue",
             LineFault::BadRegister => b"BadRegister",
+            LineFault::BadOperand => b"BadOperand",
+            LineFault::NotANumber => b"NotANumber",
+            LineFault::NotLogical => b"NotLogical",
+            LineFault::AssertionFailed => b"AssertionFailed",
         }
     }
 }

@@ -1,9 +1,9 @@
 //! Sources in the dialect of Acorn's assembler ObjAsm, in our grammar.
 //!
 //! Each line stands for one of ours, whose number is the same: a line that sets a name for a comment. The
-//! text is gone through twice, first for the names and then for what stands for each line, so a name may be
-//! used above the line that sets it, but not in a line that itself sets a name. What no definition names is
-//! left as it stands, and `assembler` judges it; directives that are not known are refused here.
+//! text is gone through three times: twice for the names, so that a line may set one by another that is set
+//! below it, and then for what stands for each line. What no definition names is left as it stands, and
+//! `assembler` judges it; directives that are not known are refused here.
 //!
 //! No ObjAsm was at hand. The levels of operators follow its manual; what it would give for a division with a
 //! number of 2^31 or more, and for a shift by 32 places or more, was not known, so these are refused.
@@ -28,5 +28,5 @@ mod token;
 mod words;
 
 pub use faults::LineFault;
-pub use law::expressions_are_evaluated;
+pub use law::{expressions_are_evaluated, values_are_of_expressions};
 pub use source::{DialectFault, PlainSource, plain_source};

@@ -1,6 +1,15 @@
 ghost use Rattle.std.specs.Prelude.{◌≡◌};
-ghost use Rattle.objasm.specs.Operators.{binary_value, divides, level, quotient, remainder, shl, shr};
-ghost use Rattle.objasm.specs.Operators.{unary_value};
+ghost use Rattle.objasm.specs.Operators.{binary_value, divides, level, logical_value, number_value};
+ghost use Rattle.objasm.specs.Operators.{numbered, quotient, remainder, shl, shr, unary_value};
+
+/// The value of an expression.
+#[derive(Clone, Copy)]
+pub enum Value {
+    /// A number.
+    Number(u32),
+    /// What a comparison gives.
+    Logical(bool),
+}
 
 /// An operator between two values.
 #[derive(Clone, Copy)]
@@ -29,6 +38,24 @@ pub enum Binary {
     Or,
     /// `:EOR:`
     Eor,
+    /// `=`
+    Equal,
+    /// `<>` or `/=`
+    Unequal,
+    /// `<`
+    Less,
+    /// `<=`
+    AtMost,
+    /// `>`
+    Greater,
+    /// `>=`
+    AtLeast,
+    /// `:LAND:`
+    Both,
+    /// `:LOR:`
+    Either,
+    /// `:LEOR:`
+    OneAlone,
 }
 
 /// An operator in front of a value.
@@ -40,6 +67,8 @@ pub enum Unary {
     Negate,
     /// `:NOT:`
     Invert,
+    /// `:LNOT:`
+    Deny,
 }
 
 /// The level of an operator: those of a lower one are applied first.
@@ -50,17 +79,27 @@ pub(crate) fn level(operator: Binary) -> u32
         Binary::Times | Binary::Over | Binary::Mod => 1,
         Binary::Shl | Binary::Shr | Binary::Rol | Binary::Ror => 2,
         Binary::Plus | Binary::Minus | Binary::And | Binary::Or | Binary::Eor => 3,
+        Binary::Equal | Binary::Unequal | Binary::Less => 4,
+        Binary::AtMost | Binary::Greater | Binary::AtLeast => 4,
+        Binary::Both | Binary::Either | Binary::OneAlone => 5,
     }
 }
 
-/// The value of an operator on a value.
-pub(crate) fn unary_value(operator: Unary, a: u32) -> u32
+/// The value of an operator on a value, or none where it is for values of the other kind.
+pub(crate) fn unary_value(operator: Unary, a: Value) -> Option<Value>
     ensures { result ≡ unary_value operator a }
 {
-    match operator {
-        Unary::Keep => a,
-        Unary::Negate => 0u32.wrapping_sub(a),
-        Unary::Invert => u32::MAX - a,
+    match a {
+        Value::Number(n) => match operator {
+            Unary::Keep => Some(Value::Number(n)),
+            Unary::Negate => Some(Value::Number(0u32.wrapping_sub(n))),
+            Unary::Invert => Some(Value::Number(u32::MAX - n)),
+            Unary::Deny => None,
+        },
+        Value::Logical(holds) => match operator {
+            Unary::Deny => Some(Value::Logical(!holds)),
+            _ => None,
+        },
     }
 }
 
@@ -95,23 +134,67 @@ fn remainder(a: u32, b: u32) -> Option<u32>
     if divides(a, b) { Some(a % b) } else { None }
 }
 
-/// The value of an operator between two values, or none for a division by 0 or of a number that may have a
-/// sign, and for a shift by 32 places or more.
-pub(crate) fn binary_value(operator: Binary, a: u32, b: u32) -> Option<u32>
-    ensures { result ≡ binary_value operator a b }
+fn numbered(found: Option<u32>) -> Option<Value>
+    ensures { result ≡ numbered found }
+{
+    match found {
+        Some(n) => Some(Value::Number(n)),
+        None => None,
+    }
+}
+
+// The value of an operator between two numbers.
+fn number_value(operator: Binary, a: u32, b: u32) -> Option<Value>
+    ensures { result ≡ number_value operator a b }
 {
     match operator {
-        Binary::Times => Some(a.wrapping_mul(b)),
-        Binary::Over => quotient(a, b),
-        Binary::Mod => remainder(a, b),
-        Binary::Shl => shl(a, b),
-        Binary::Shr => shr(a, b),
-        Binary::Rol => Some(a.rotate_left(b)),
-        Binary::Ror => Some(a.rotate_right(b)),
-        Binary::Plus => Some(a.wrapping_add(b)),
-        Binary::Minus => Some(a.wrapping_sub(b)),
-        Binary::And => Some(a & b),
-        Binary::Or => Some(a | b),
-        Binary::Eor => Some(a ^ b),
+        Binary::Times => Some(Value::Number(a.wrapping_mul(b))),
+        Binary::Over => numbered(quotient(a, b)),
+        Binary::Mod => numbered(remainder(a, b)),
+        Binary::Shl => numbered(shl(a, b)),
+        Binary::Shr => numbered(shr(a, b)),
+        Binary::Rol => Some(Value::Number(a.rotate_left(b))),
+        Binary::Ror => Some(Value::Number(a.rotate_right(b))),
+        Binary::Plus => Some(Value::Number(a.wrapping_add(b))),
+        Binary::Minus => Some(Value::Number(a.wrapping_sub(b))),
+        Binary::And => Some(Value::Number(a & b)),
+        Binary::Or => Some(Value::Number(a | b)),
+        Binary::Eor => Some(Value::Number(a ^ b)),
+        Binary::Equal => Some(Value::Logical(a == b)),
+        Binary::Unequal => Some(Value::Logical(a != b)),
+        Binary::Less => Some(Value::Logical(a < b)),
+        Binary::AtMost => Some(Value::Logical(a <= b)),
+        Binary::Greater => Some(Value::Logical(b < a)),
+        Binary::AtLeast => Some(Value::Logical(b <= a)),
+        Binary::Both | Binary::Either | Binary::OneAlone => None,
+    }
+}
+
+// The value of an operator between two logical values.
+fn logical_value(operator: Binary, a: bool, b: bool) -> Option<Value>
+    ensures { result ≡ logical_value operator a b }
+{
+    match operator {
+        Binary::Both => Some(Value::Logical(a & b)),
+        Binary::Either => Some(Value::Logical(a | b)),
+        Binary::OneAlone => Some(Value::Logical(a ^ b)),
+        _ => None,
+    }
+}
+
+/// The value of an operator between two values, or none for a division by 0 or of a number that may have a
+/// sign, for a shift by 32 places or more, and where the operator is for values of other kinds.
+pub(crate) fn binary_value(operator: Binary, a: Value, b: Value) -> Option<Value>
+    ensures { result ≡ binary_value operator a b }
+{
+    match a {
+        Value::Number(a) => match b {
+            Value::Number(b) => number_value(operator, a, b),
+            Value::Logical(_) => None,
+        },
+        Value::Logical(a) => match b {
+            Value::Number(_) => None,
+            Value::Logical(b) => logical_value(operator, a, b),
+        },
     }
 }

@@ -1,24 +1,24 @@
 //! What stands in our grammar for a line of the dialect.
 
-ghost use Rattle.std.specs.Prelude.{◌≡◌, ◌++◌, OnOk, IfErr, Ok, decimal, map};
+ghost use Rattle.std.specs.Prelude.{◌≡◌, ◌++◌, [], OnOk, IfErr, Ok, decimal, map, option_map};
 ghost use Rattle.objasm.specs.Names.{Told, meanings_of};
 ghost use Rattle.objasm.specs.Parts.{part_of};
-ghost use Rattle.objasm.specs.PlainLines.{is_label, is_label_field, is_over, kind_with, offset_text};
-ghost use Rattle.objasm.specs.PlainLines.{part_text};
-ghost use Rattle.objasm.specs.PlainLines.{put_body, put_field, put_instruction, put_operands, put_plain};
-ghost use Rattle.objasm.specs.PlainLines.{put_statement};
-ghost use Rattle.objasm.specs.PlainLines.{put_stop, put_stops, put_value, put_word, register_text};
-ghost use Rattle.objasm.specs.PlainLines.{run_text, with_parts};
-ghost use Rattle.objasm.specs.PlainLines.{word_with, written};
+ghost use Rattle.objasm.specs.PlainLines.{assert_text, behind, body_text, exchanged_text, field_text, hex_literal};
+ghost use Rattle.objasm.specs.PlainLines.{instruction_text, is_label, is_label_field, is_over, kind_with};
+ghost use Rattle.objasm.specs.PlainLines.{literal_at, literal_of, literal_text, lone, nop_text, number_text};
+ghost use Rattle.objasm.specs.PlainLines.{offset_text, operands_text, part_text, parts_text, plain_text};
+ghost use Rattle.objasm.specs.PlainLines.{register_text, run_text, spaced_operands, statement_text, stop_text, stops_text};
+ghost use Rattle.objasm.specs.PlainLines.{value_text, word_line, word_with, written, written_so};
 ghost use Rattle.objasm.specs.Words.{word_text};
 
 use crate::exchanges::{Flip, exchange_of, exchanged_word, flipped, from};
 use crate::faults::LineFault;
 use crate::names::Names;
-use crate::settings::{setting_of, value_of};
+use crate::settings::{setting_of, truth_of, value_of};
 use crate::symbols::begins_number;
 use crate::token::{Token, after_blanks, first_field, front_blanks, is_stop};
-use crate::words::{Operands, is_directive, is_nop, kind_of, put_word_text};
+use crate::words::{Operands, is_assert, is_directive, is_nop, is_silent, kind_of, put_word_text};
+use asm_text::{read_hex, read_number};
 use itoa::Buffer;
 use std::alloc::{AllocError, Global};
 
@@ -35,6 +35,15 @@ pub enum Translation {
     Value,
     /// Names of registers and numbers, and what else there is.
     Parts,
+}
+
+/// A number that our grammar has as well.
+#[derive(Clone, Copy)]
+pub(crate) enum Literal<'a> {
+    /// Decimal, or hexadecimal behind `0x`.
+    Plain(&'a [u8]),
+    /// The hexadecimal digits behind `&`.
+    Hex(&'a [u8]),
 }
 
 // How what follows this stop is translated.
@@ -55,28 +64,110 @@ fn written(kind: Operands, stop: u8) -> Translation
     }
 }
 
-fn put_number(out: &mut Vec<u8>, n: u32) -> Result<(), AllocError>
+fn is_over(tokens: &[Token<'_>]) -> bool
+    ensures { result ≡ is_over (map part_of tokens.now) }
+{
+    match tokens {
+        [] => true,
+        _ => false,
+    }
+}
+
+fn lone<'a>(literal: Literal<'a>, value: Option<u32>, rest: &[Token<'_>]) -> Option<Literal<'a>>
+    ensures { option_map literal_text result
+        ≡ lone (literal_text literal.entry) value (map part_of rest.now) }
+{
+    match value {
+        Some(_) => {
+            if is_over(after_blanks(rest)) {
+                Some(literal)
+            } else {
+                None
+            }
+        }
+        None => None,
+    }
+}
+
+fn hex_literal<'a>(tokens: &[Token<'a>]) -> Option<Literal<'a>>
+    ensures { option_map literal_text result ≡ hex_literal (map part_of tokens.now) }
+{
+    match tokens {
+        [Token::Run(digits), rest @ ..] => lone(Literal::Hex(digits), read_hex(digits), rest),
+        _ => None,
+    }
+}
+
+fn literal_at<'a>(tokens: &[Token<'a>]) -> Option<Literal<'a>>
+    ensures { option_map literal_text result ≡ literal_at (map part_of tokens.now) }
+{
+    match tokens {
+        [Token::Run(digits), rest @ ..] => {
+            lone(Literal::Plain(digits), read_number(digits), rest)
+        }
+        [Token::Byte(b), rest @ ..] => { if *b == b'&' { hex_literal(rest) } else { None } }
+        _ => None,
+    }
+}
+
+// The number that tokens are, if our grammar has it as well.
+fn literal_of<'a>(tokens: &[Token<'a>]) -> Option<Literal<'a>>
+    ensures { option_map literal_text result ≡ literal_of (map part_of tokens.now) }
+{
+    literal_at(after_blanks(tokens))
+}
+
+fn put_decimal(out: &mut Vec<u8>, n: u32) -> Result<(), AllocError>
     ensures { OnOk result (out.new.items ≡ out.old.items ++ decimal n) }
 {
     let mut buffer = Buffer::new();
     out.extend_from_slice(buffer.format(n).as_bytes())
 }
 
-fn put_offset(out: &mut Vec<u8>, n: u32) -> Result<(), AllocError>
-    ensures { OnOk result (out.new.items ≡ out.old.items ++ offset_text n) }
+fn put_literal(out: &mut Vec<u8>, literal: Literal<'_>) -> Result<(), AllocError>
+    ensures { OnOk result (out.new.items ≡ out.old.items ++ literal_text literal.entry) }
+{
+    match literal {
+        Literal::Plain(digits) => out.extend_from_slice(digits),
+        Literal::Hex(digits) => {
+            out.push(b'&')?;
+            out.extend_from_slice(digits)
+        }
+    }
+}
+
+fn put_written(out: &mut Vec<u8>, literal: Option<Literal<'_>>, n: u32) -> Result<(), AllocError>
+    ensures { OnOk result
+        (out.new.items ≡ out.old.items ++ written_so (option_map literal_text literal.entry) n) }
+{
+    match literal {
+        Some(literal) => put_literal(out, literal),
+        None => put_decimal(out, n),
+    }
+}
+
+// The value of an expression, or the expression where our grammar has it.
+fn put_number(out: &mut Vec<u8>, tokens: &[Token<'_>], n: u32) -> Result<(), AllocError>
+    ensures { OnOk result (out.new.items ≡ out.old.items ++ number_text (map part_of tokens.now) n) }
+{
+    put_written(out, literal_of(tokens), n)
+}
+
+fn put_offset(out: &mut Vec<u8>, tokens: &[Token<'_>], n: u32) -> Result<(), AllocError>
+    ensures { OnOk result (out.new.items ≡ out.old.items ++ offset_text (map part_of tokens.now) n) }
 {
     if n < 0x8000_0000 {
-        return put_number(out, n);
+        return put_number(out, tokens, n);
     }
     out.push(b'-')?;
-    put_number(out, u32::MAX - n + 1)
+    put_decimal(out, u32::MAX - n + 1)
 }
 
 fn put_register(out: &mut Vec<u8>, n: u32) -> Result<(), AllocError>
     ensures { OnOk result (out.new.items ≡ out.old.items ++ register_text n) }
 {
     out.push(b'R')?;
-    put_number(out, n)
+    put_decimal(out, n)
 }
 
 fn put_run(names: &Names, run: &[u8], out: &mut Vec<u8>) -> Result<(), AllocError>
@@ -103,7 +194,7 @@ fn put_part(names: &Names, token: Token<'_>, out: &mut Vec<u8>) -> Result<(), Al
 
 fn put_parts(names: &Names, tokens: &[Token<'_>], out: &mut Vec<u8>) -> Result<(), AllocError>
     ensures { OnOk result
-        (out.new.items ≡ with_parts (meanings_of names.now) (map part_of tokens.now) out.old.items) }
+        (out.new.items ≡ out.old.items ++ parts_text (meanings_of names.now) (map part_of tokens.now)) }
 {
     for token in tokens {
         put_part(names, *token, out)?;
@@ -115,15 +206,6 @@ fn is_label(names: &Names, run: &[u8]) -> bool
     ensures { result ≡ is_label (meanings_of names.now) run.now }
 {
     !begins_number(run) & names.constants.get(run).is_none()
-}
-
-fn is_over(tokens: &[Token<'_>]) -> bool
-    ensures { result ≡ is_over (map part_of tokens.now) }
-{
-    match tokens {
-        [] => true,
-        _ => false,
-    }
 }
 
 // Whether a place of a list of numbers has nothing or a label.
@@ -145,24 +227,25 @@ fn put_field(
     out: &mut Vec<u8>,
 ) -> Result<(), LineFault>
     ensures ok { OnOk result
-        (put_field (meanings_of names.now) how (map part_of tokens.now) out.old.items ≡ Ok out.new.items) }
+        (behind out.old.items (field_text (meanings_of names.now) how (map part_of tokens.now))
+        ≡ Ok out.new.items) }
     ensures fault { IfErr result
-        (λ fault. Told fault (put_field (meanings_of names.now) how (map part_of tokens.now) out.old.items)) }
+        (λ fault. Told fault (field_text (meanings_of names.now) how (map part_of tokens.now))) }
 {
     match how {
         Translation::Number => {
             let n = value_of(alloc, names, tokens)?;
-            put_number(out, n)?;
+            put_number(out, tokens, n)?;
             Ok(())
         }
         Translation::Offset => {
             let n = value_of(alloc, names, tokens)?;
-            put_offset(out, n)?;
+            put_offset(out, tokens, n)?;
             Ok(())
         }
         Translation::Changed(flip) => {
             let n = value_of(alloc, names, tokens)?;
-            put_number(out, flipped(flip, n))?;
+            put_decimal(out, flipped(flip, n))?;
             Ok(())
         }
         Translation::Value => put_value(alloc, names, tokens, out),
@@ -180,16 +263,18 @@ fn put_value(
     out: &mut Vec<u8>,
 ) -> Result<(), LineFault>
     ensures ok { OnOk result
-        (put_value (meanings_of names.now) (map part_of tokens.now) out.old.items ≡ Ok out.new.items) }
+        (behind out.old.items (value_text (meanings_of names.now) (map part_of tokens.now))
+        ≡ Ok out.new.items) }
     ensures fault { IfErr result
-        (λ fault. Told fault (put_value (meanings_of names.now) (map part_of tokens.now) out.old.items)) }
+        (λ fault. Told fault (value_text (meanings_of names.now) (map part_of tokens.now))) }
 {
     if is_label_field(names, tokens) {
         put_parts(names, tokens, out)?;
         return Ok(());
     }
     let n = value_of(alloc, names, tokens)?;
-    put_number(out, n)?;
+    put_parts(names, front_blanks(tokens), out)?;
+    put_number(out, tokens, n)?;
     Ok(())
 }
 
@@ -202,10 +287,10 @@ fn put_stop(
     out: &mut Vec<u8>,
 ) -> Result<(), LineFault>
     ensures ok { OnOk result
-        (put_stop (meanings_of names.now) kind (map part_of tokens.now) out.old.items ≡ Ok out.new.items) }
+        (behind out.old.items (stop_text (meanings_of names.now) kind (map part_of tokens.now))
+        ≡ Ok out.new.items) }
     ensures fault { IfErr result
-        (λ fault. Told fault
-        (put_stop (meanings_of names.now) kind (map part_of tokens.now) out.old.items)) }
+        (λ fault. Told fault (stop_text (meanings_of names.now) kind (map part_of tokens.now))) }
 {
     match tokens {
         [Token::Byte(b), rest @ ..] => {
@@ -228,10 +313,10 @@ fn put_stops(
     out: &mut Vec<u8>,
 ) -> Result<(), LineFault>
     ensures ok { OnOk result
-        (put_stops (meanings_of names.now) kind (map part_of tokens.now) out.old.items ≡ Ok out.new.items) }
+        (behind out.old.items (stops_text (meanings_of names.now) kind (map part_of tokens.now))
+        ≡ Ok out.new.items) }
     ensures fault { IfErr result
-        (λ fault. Told fault
-        (put_stops (meanings_of names.now) kind (map part_of tokens.now) out.old.items)) }
+        (λ fault. Told fault (stops_text (meanings_of names.now) kind (map part_of tokens.now))) }
 {
     for index in 0..tokens.len() {
         if let Err(fault) = put_stop(alloc, names, kind, from(tokens, index), out) {
@@ -249,11 +334,10 @@ fn put_operands(
     out: &mut Vec<u8>,
 ) -> Result<(), LineFault>
     ensures ok { OnOk result
-        (put_operands (meanings_of names.now) kind (map part_of tokens.now) out.old.items
+        (behind out.old.items (operands_text (meanings_of names.now) kind (map part_of tokens.now))
         ≡ Ok out.new.items) }
     ensures fault { IfErr result
-        (λ fault. Told fault
-        (put_operands (meanings_of names.now) kind (map part_of tokens.now) out.old.items)) }
+        (λ fault. Told fault (operands_text (meanings_of names.now) kind (map part_of tokens.now))) }
 {
     put_field(alloc, names, written(kind, b','), first_field(tokens), out)?;
     put_stops(alloc, names, kind, tokens, out)
@@ -286,6 +370,51 @@ fn put_word_with(
     }
 }
 
+fn put_nop(tokens: &[Token<'_>], out: &mut Vec<u8>) -> Result<(), LineFault>
+    ensures ok { OnOk result
+        (behind out.old.items (nop_text (map part_of tokens.now)) ≡ Ok out.new.items) }
+    ensures fault { IfErr result (λ fault. Told fault (nop_text (map part_of tokens.now))) }
+{
+    if is_over(after_blanks(tokens)) {
+        out.extend_from_slice(b"MOV R0,R0")?;
+        Ok(())
+    } else {
+        Err(LineFault::BadOperand)
+    }
+}
+
+// Refuses an assertion that does not hold.
+fn assert_holds(alloc: Global, names: &Names, tokens: &[Token<'_>]) -> Result<(), LineFault>
+    ensures ok { OnOk result (assert_text (meanings_of names.now) (map part_of tokens.now) ≡ Ok []) }
+    ensures fault { IfErr result
+        (λ fault. Told fault (assert_text (meanings_of names.now) (map part_of tokens.now))) }
+{
+    let holds = truth_of(alloc, names, tokens)?;
+    if holds {
+        Ok(())
+    } else {
+        Err(LineFault::AssertionFailed)
+    }
+}
+
+// The blanks behind a word, and its operands.
+fn put_word_operands(
+    alloc: Global,
+    names: &Names,
+    kind: Operands,
+    tokens: &[Token<'_>],
+    out: &mut Vec<u8>,
+) -> Result<(), LineFault>
+    ensures ok { OnOk result
+        (behind out.old.items (spaced_operands (meanings_of names.now) kind (map part_of tokens.now))
+        ≡ Ok out.new.items) }
+    ensures fault { IfErr result
+        (λ fault. Told fault (spaced_operands (meanings_of names.now) kind (map part_of tokens.now))) }
+{
+    put_parts(names, front_blanks(tokens), out)?;
+    put_operands(alloc, names, kind, after_blanks(tokens), out)
+}
+
 fn put_instruction(
     alloc: Global,
     names: &Names,
@@ -294,30 +423,26 @@ fn put_instruction(
     out: &mut Vec<u8>,
 ) -> Result<(), LineFault>
     ensures ok { OnOk result
-        (put_instruction (meanings_of names.now) word.now (map part_of tokens.now) out.old.items
+        (behind out.old.items (instruction_text (meanings_of names.now) word.now (map part_of tokens.now))
         ≡ Ok out.new.items) }
     ensures fault { IfErr result
-        (λ fault. Told fault
-        (put_instruction (meanings_of names.now) word.now (map part_of tokens.now) out.old.items)) }
+        (λ fault. Told fault (instruction_text (meanings_of names.now) word.now (map part_of tokens.now))) }
 {
     if is_nop(word) {
-        out.extend_from_slice(b"MOV R0,R0")?;
-        put_parts(names, tokens, out)?;
+        return put_nop(tokens, out);
+    }
+    if is_silent(word) {
         return Ok(());
+    }
+    if is_assert(word) {
+        return assert_holds(alloc, names, tokens);
     }
     if is_directive(word) {
         return Err(LineFault::UnknownDirective);
     }
     let exchange = exchange_of(alloc, names, word, tokens)?;
     put_word_with(alloc, word, exchange, out)?;
-    put_parts(names, front_blanks(tokens), out)?;
-    put_operands(
-        alloc,
-        names,
-        kind_with(word, exchange),
-        after_blanks(tokens),
-        out,
-    )
+    put_word_operands(alloc, names, kind_with(word, exchange), tokens, out)
 }
 
 fn put_word(
@@ -327,9 +452,10 @@ fn put_word(
     out: &mut Vec<u8>,
 ) -> Result<(), LineFault>
     ensures ok { OnOk result
-        (put_word (meanings_of names.now) (map part_of tokens.now) out.old.items ≡ Ok out.new.items) }
+        (behind out.old.items (word_line (meanings_of names.now) (map part_of tokens.now))
+        ≡ Ok out.new.items) }
     ensures fault { IfErr result
-        (λ fault. Told fault (put_word (meanings_of names.now) (map part_of tokens.now) out.old.items)) }
+        (λ fault. Told fault (word_line (meanings_of names.now) (map part_of tokens.now))) }
 {
     match tokens {
         [] => Ok(()),
@@ -346,10 +472,10 @@ fn put_statement(
     out: &mut Vec<u8>,
 ) -> Result<(), LineFault>
     ensures ok { OnOk result
-        (put_statement (meanings_of names.now) (map part_of tokens.now) out.old.items ≡ Ok out.new.items) }
+        (behind out.old.items (statement_text (meanings_of names.now) (map part_of tokens.now))
+        ≡ Ok out.new.items) }
     ensures fault { IfErr result
-        (λ fault. Told fault
-        (put_statement (meanings_of names.now) (map part_of tokens.now) out.old.items)) }
+        (λ fault. Told fault (statement_text (meanings_of names.now) (map part_of tokens.now))) }
 {
     put_parts(names, front_blanks(tokens), out)?;
     put_word(alloc, names, after_blanks(tokens), out)
@@ -363,9 +489,10 @@ fn put_plain(
     out: &mut Vec<u8>,
 ) -> Result<(), LineFault>
     ensures ok { OnOk result
-        (put_plain (meanings_of names.now) (map part_of tokens.now) out.old.items ≡ Ok out.new.items) }
+        (behind out.old.items (plain_text (meanings_of names.now) (map part_of tokens.now))
+        ≡ Ok out.new.items) }
     ensures fault { IfErr result
-        (λ fault. Told fault (put_plain (meanings_of names.now) (map part_of tokens.now) out.old.items)) }
+        (λ fault. Told fault (plain_text (meanings_of names.now) (map part_of tokens.now))) }
 {
     match tokens {
         [Token::Run(label), rest @ ..] => {
@@ -387,9 +514,10 @@ pub(crate) fn put_body(
     out: &mut Vec<u8>,
 ) -> Result<(), LineFault>
     ensures ok { OnOk result
-        (put_body (meanings_of names.now) (map part_of tokens.now) out.old.items ≡ Ok out.new.items) }
+        (behind out.old.items (body_text (meanings_of names.now) (map part_of tokens.now))
+        ≡ Ok out.new.items) }
     ensures fault { IfErr result
-        (λ fault. Told fault (put_body (meanings_of names.now) (map part_of tokens.now) out.old.items)) }
+        (λ fault. Told fault (body_text (meanings_of names.now) (map part_of tokens.now))) }
 {
     match setting_of(tokens) {
         Some(_) => Ok(()),

@@ -4,11 +4,13 @@ ghost use Rattle.std.specs.Prelude.{◌≡◌, ◌≤◌, IfOk, IfErr, OnOk, Ok,
 ghost use Rattle.objasm.specs.Names.{Told, meanings_of};
 ghost use Rattle.objasm.specs.Parts.{after_blanks, blank_len, is_blank_part, part_of};
 ghost use Rattle.objasm.specs.Settings.{is_no_name, kind_named, outcome, set_as, setting_of, setting_value};
-ghost use Rattle.objasm.specs.Settings.{settled, setting_view, value_of};
+ghost use Rattle.objasm.specs.Settings.{allowed, settled, settled_again, setting_view, truth, truth_of};
+ghost use Rattle.objasm.specs.Settings.{value_of};
 
 use crate::evaluation::evaluated;
 use crate::faults::LineFault;
 use crate::names::{Kind, Names};
+use crate::operators::Value;
 use crate::symbols::{begins_number, symbols_in};
 use crate::token::{Token, after_blanks};
 use asm_text::register_of;
@@ -25,11 +27,12 @@ pub(crate) struct Setting<'a, 'b> {
     pub value: &'b [Token<'a>],
 }
 
-fn outcome(found: Option<Option<u32>>) -> Result<u32, LineFault>
+fn outcome(found: Option<Option<Value>>) -> Result<u32, LineFault>
     ensures { result ≡ outcome found }
 {
     match found {
-        Some(Some(n)) => Ok(n),
+        Some(Some(Value::Number(n))) => Ok(n),
+        Some(Some(Value::Logical(_))) => Err(LineFault::NotANumber),
         Some(None) => Err(LineFault::NoValue),
         None => Err(LineFault::BadExpression),
     }
@@ -44,6 +47,33 @@ pub(crate) fn value_of(alloc: Global, names: &Names, tokens: &[Token<'_>]) -> Re
     let symbols = symbols_in(alloc, names, tokens)?;
     let found = evaluated(alloc, &symbols)?;
     outcome(found)
+}
+
+fn truth(found: Option<Option<Value>>) -> Result<bool, LineFault>
+    ensures { result ≡ truth found }
+{
+    match found {
+        Some(Some(Value::Logical(holds))) => Ok(holds),
+        Some(Some(Value::Number(_))) => Err(LineFault::NotLogical),
+        Some(None) => Err(LineFault::NoValue),
+        None => Err(LineFault::BadExpression),
+    }
+}
+
+/// Whether an expression holds.
+pub(crate) fn truth_of(
+    alloc: Global,
+    names: &Names,
+    tokens: &[Token<'_>],
+) -> Result<bool, LineFault>
+    ensures ok { IfOk result
+        (λ holds. truth_of (meanings_of names.now) (map part_of tokens.now) ≡ Ok holds) }
+    ensures fault { IfErr result
+        (λ fault. Told fault (truth_of (meanings_of names.now) (map part_of tokens.now))) }
+{
+    let symbols = symbols_in(alloc, names, tokens)?;
+    let found = evaluated(alloc, &symbols)?;
+    truth(found)
 }
 
 // What the word after a name sets it for.
@@ -96,6 +126,22 @@ fn is_no_name(name: &[u8]) -> bool
     begins_number(name) || register_of(name).is_some()
 }
 
+// The value, if a name of this kind may have it.
+fn allowed(kind: Kind, value: u32) -> Result<u32, LineFault>
+    ensures { result ≡ allowed kind value }
+{
+    match kind {
+        Kind::Register => {
+            if value > LAST_REGISTER {
+                Err(LineFault::BadRegister)
+            } else {
+                Ok(value)
+            }
+        }
+        Kind::Constant => Ok(value),
+    }
+}
+
 // The value that a name is set to.
 fn setting_value(alloc: Global, names: &Names, setting: Setting<'_, '_>) -> Result<u32, LineFault>
     ensures ok { IfOk result
@@ -110,19 +156,10 @@ fn setting_value(alloc: Global, names: &Names, setting: Setting<'_, '_>) -> Resu
         return Err(LineFault::NameTwice);
     }
     let value = value_of(alloc, names, setting.value)?;
-    match setting.kind {
-        Kind::Register => {
-            if value > LAST_REGISTER {
-                Err(LineFault::BadRegister)
-            } else {
-                Ok(value)
-            }
-        }
-        Kind::Constant => Ok(value),
-    }
+    allowed(setting.kind, value)
 }
 
-/// Sets what a line sets.
+/// Sets what a line sets, where the names in it are known, and else notes its name.
 pub(crate) fn settle(
     alloc: Global,
     names: &mut Names,
@@ -136,6 +173,31 @@ pub(crate) fn settle(
     let Some(setting) = setting_of(tokens) else {
         return Ok(());
     };
-    let value = setting_value(alloc, names, setting)?;
+    match setting_value(alloc, names, setting) {
+        Ok(value) => names.put(alloc, setting.name, setting.kind, value),
+        Err(LineFault::NameMissing) => names.defer(alloc, setting.name),
+        Err(fault) => Err(fault),
+    }
+}
+
+/// Sets what a line sets whose name was noted.
+pub(crate) fn settle_again(
+    alloc: Global,
+    names: &mut Names,
+    tokens: &[Token<'_>],
+) -> Result<(), LineFault>
+    ensures ok { OnOk result
+        (settled_again (meanings_of names.old) (map part_of tokens.now) ≡ Ok (meanings_of names.new)) }
+    ensures fault { IfErr result
+        (λ fault. Told fault (settled_again (meanings_of names.old) (map part_of tokens.now))) }
+{
+    let Some(setting) = setting_of(tokens) else {
+        return Ok(());
+    };
+    if names.is_known(setting.name) {
+        return Ok(());
+    }
+    let value = value_of(alloc, names, setting.value)?;
+    let value = allowed(setting.kind, value)?;
     names.put(alloc, setting.name, setting.kind, value)
 }

@@ -1,18 +1,21 @@
-ghost use Rattle.std.specs.Prelude.{◌≡◌, ◌≤◌, ◌++◌, IfOk, IfErr, OnOk, Ok, length};
+ghost use Rattle.std.specs.Prelude.{◌≡◌, ◌≤◌, ◌||◌, ◌∷◌, ◌++◌, [], false, IfOk, IfErr, OnOk, Ok, length};
 ghost use Rattle.std.specs.List.{range_with_len};
+ghost use Rattle.std.specs.Str.{bytes_eq};
+ghost use Rattle.asm_text.specs.Pieces.{first_blank};
 ghost use Rattle.asm_text.specs.Source.{lines_of};
-ghost use Rattle.objasm.specs.Names.{Told, meanings_of, no_meanings};
-ghost use Rattle.objasm.specs.Source.{FaultedAt, body_len, fault_at, line_settled, no_lines, plain_of};
-ghost use Rattle.objasm.specs.Source.{put_line};
-ghost use Rattle.objasm.specs.Source.{put_lines, put_next, settings, shown_line, translated};
+ghost use Rattle.objasm.specs.Names.{Told, meanings_of};
+ghost use Rattle.objasm.specs.PlainLines.{behind};
+ghost use Rattle.objasm.specs.Source.{FaultedAt, body_len, fault_at, is_end, line_settled, line_text};
+ghost use Rattle.objasm.specs.Source.{meanings_in, plain_lines, plain_of, settings, shown_line};
+ghost use Rattle.objasm.specs.Source.{stripped, translated, trimmed};
 ghost use Rattle.objasm.specs.declared.source.DialectFault.TheVariants.{Memory};
 
 use crate::faults::LineFault;
 use crate::names::Names;
 use crate::plain_lines::put_body;
-use crate::settings::settle;
+use crate::settings::{settle, settle_again};
 use crate::token::tokens;
-use asm_text::first_line;
+use asm_text::{first_line, is_blank};
 use std::alloc::{AllocError, Global};
 use thiserror::Error;
 
@@ -24,6 +27,23 @@ pub struct PlainSource {
     pub text: Vec<u8>,
     /// The number, from 1, of the author's line that each line comes from.
     pub origins: Vec<usize>,
+}
+
+// A line, its number from 1, and whether the source ends at it or above it.
+#[derive(Clone, Copy)]
+struct Place<'a> {
+    line: &'a [u8],
+    number: usize,
+    is_below: bool,
+}
+
+/// When the lines are gone through for the names that they set.
+#[derive(Clone, Copy)]
+pub enum Pass {
+    /// First: a name whose value is not known yet waits.
+    First,
+    /// Again, for the names that wait.
+    Second,
 }
 
 /// Why a text of the dialect is not translated.
@@ -62,81 +82,171 @@ fn body_len(line: &[u8]) -> usize
     line.iter().take_while(|b| **b != b';').count()
 }
 
-fn settle_line(alloc: Global, names: &mut Names, line: &[u8]) -> Result<(), LineFault>
-    ensures ok { OnOk result (line_settled (meanings_of names.old) line.now ≡ Ok (meanings_of names.new)) }
-    ensures fault { IfErr result (λ fault. Told fault (line_settled (meanings_of names.old) line.now)) }
+// The text without the white space round it.
+fn stripped(text: &[u8]) -> &[u8]
+    ensures { result.now ≡ stripped text.now }
 {
-    let parts = tokens(alloc, &line[..body_len(line)])?;
-    settle(alloc, names, &parts)
+    text.trim_ascii()
 }
 
-fn names_of(alloc: Global, source: &[u8]) -> Result<Names, DialectFault>
-    ensures ok { IfOk result (λ names.
-        settings no_meanings 1 (lines_of source.now) ≡ Ok (meanings_of names)) }
-    ensures fault { IfErr result (λ fault. FaultedAt fault (settings no_meanings 1 (lines_of source.now))) }
+fn first_blank(text: &[u8]) -> bool
+    ensures { result ≡ first_blank text.now }
 {
-    let mut names = Names::new(alloc);
+    match text {
+        [first, ..] => is_blank(*first),
+        _ => false,
+    }
+}
+
+// Whether the source ends at a line.
+fn is_end(line: &[u8]) -> bool
+    ensures { result ≡ is_end line.now }
+{
+    first_blank(line) & (stripped(&line[..body_len(line)]) == b"END".as_slice())
+}
+
+// Whether a line is the end of the source, or below it.
+fn is_below(ended: bool, line: &[u8]) -> bool
+    ensures { result ≡ (ended || is_end line.now) }
+{
+    ended || is_end(line)
+}
+
+fn settle_line(alloc: Global, names: &mut Names, pass: Pass, line: &[u8]) -> Result<(), LineFault>
+    ensures ok { OnOk result
+        (line_settled pass (meanings_of names.old) line.now ≡ Ok (meanings_of names.new)) }
+    ensures fault { IfErr result
+        (λ fault. Told fault (line_settled pass (meanings_of names.old) line.now)) }
+{
+    let parts = tokens(alloc, &line[..body_len(line)])?;
+    match pass {
+        Pass::First => settle(alloc, names, &parts),
+        Pass::Second => settle_again(alloc, names, &parts),
+    }
+}
+
+// Goes through the lines for the names that they set.
+fn settle_lines(
+    alloc: Global,
+    names: &mut Names,
+    pass: Pass,
+    source: &[u8],
+) -> Result<(), DialectFault>
+    ensures ok { OnOk result
+        (settings pass (meanings_of names.old) 1 (lines_of source.now) ≡ Ok (meanings_of names.new)) }
+    ensures fault { IfErr result (λ fault.
+        FaultedAt fault (settings pass (meanings_of names.old) 1 (lines_of source.now))) }
+{
     let mut rest = source;
     let mut number = 1;
     while let Some((line, after)) = first_line(rest) {
-        if let Err(fault) = settle_line(alloc, &mut names, line) {
+        if is_end(line) {
+            return Ok(());
+        }
+        if let Err(fault) = settle_line(alloc, names, pass, line) {
             return Err(fault_at(fault, number));
         }
         rest = after;
         number += 1;
     }
+    Ok(())
+}
+
+fn names_of(alloc: Global, source: &[u8]) -> Result<Names, DialectFault>
+    ensures ok { IfOk result (λ names. meanings_in (lines_of source.now) ≡ Ok (meanings_of names)) }
+    ensures fault { IfErr result (λ fault. FaultedAt fault (meanings_in (lines_of source.now))) }
+{
+    let mut names = Names::new(alloc);
+    settle_lines(alloc, &mut names, Pass::First, source)?;
+    settle_lines(alloc, &mut names, Pass::Second, source)?;
     Ok(names)
 }
 
-// Puts the line itself, where that is what stands for it, else that, and the line as a comment behind it.
+// The text without the white space at its end.
+fn trimmed(text: &[u8]) -> &[u8]
+    ensures { result.now ≡ trimmed text.now }
+{
+    text.trim_ascii_end()
+}
+
+fn is_same(plain: &[u8], body: &[u8]) -> bool
+    ensures { result ≡ bytes_eq (trimmed plain.now) (trimmed body.now) }
+{
+    trimmed(plain) == trimmed(body)
+}
+
+// Puts the line itself, where but for blanks that is what stands for it, else that, and the line as a comment
+// behind it.
 fn put_shown(out: &mut Vec<u8>, plain: &[u8], line: &[u8]) -> Result<(), AllocError>
     ensures { OnOk result (out.new.items ≡ out.old.items ++ shown_line plain.now line.now) }
 {
-    let body = &line[..body_len(line)];
-    if plain == body {
+    if is_same(plain, &line[..body_len(line)]) {
         return out.extend_from_slice(line);
     }
-    out.extend_from_slice(plain)?;
+    out.extend_from_slice(trimmed(plain))?;
     out.extend_from_slice(b" ; ")?;
     out.extend_from_slice(line)
 }
 
 // Puts what is shown of a line, and an LF.
-fn put_line(alloc: Global, names: &Names, line: &[u8], out: &mut Vec<u8>) -> Result<(), LineFault>
-    ensures ok { OnOk result (put_line (meanings_of names.now) line.now out.old.items ≡ Ok out.new.items) }
-    ensures fault { IfErr result
-        (λ fault. Told fault (put_line (meanings_of names.now) line.now out.old.items)) }
+fn put_ended(out: &mut Vec<u8>, plain: &[u8], line: &[u8]) -> Result<(), AllocError>
+    ensures { OnOk result
+        (out.new.items ≡ out.old.items ++ (shown_line plain.now line.now ++ 10 ∷ [])) }
 {
+    put_shown(out, plain, line)?;
+    out.push(b'\n')?;
+    Ok(())
+}
+
+// The same of a line, by what stands for it.
+fn put_line(
+    alloc: Global,
+    names: &Names,
+    ended: bool,
+    line: &[u8],
+    out: &mut Vec<u8>,
+) -> Result<(), LineFault>
+    ensures ok { OnOk result
+        (behind out.old.items (line_text ended (meanings_of names.now) line.now) ≡ Ok out.new.items) }
+    ensures fault { IfErr result
+        (λ fault. Told fault (line_text ended (meanings_of names.now) line.now)) }
+{
+    if ended {
+        put_ended(out, &[], line)?;
+        return Ok(());
+    }
     let parts = tokens(alloc, &line[..body_len(line)])?;
     let mut plain = Vec::new(alloc);
     put_body(alloc, names, &parts, &mut plain)?;
-    put_shown(out, &plain, line)?;
-    out.push(b'\n')?;
+    put_ended(out, &plain, line)?;
     Ok(())
 }
 
 fn put_next(
     alloc: Global,
     names: &Names,
-    number: usize,
-    line: &[u8],
+    place: Place<'_>,
     plain: &mut PlainSource,
 ) -> Result<(), LineFault>
     ensures ok { OnOk result
-        (put_next (meanings_of names.now) number line.now (plain_of plain.old) ≡ Ok (plain_of plain.new)) }
-    ensures fault { IfErr result
-        (λ fault. Told fault (put_next (meanings_of names.now) number line.now (plain_of plain.old))) }
+        (behind plain.old.text.items
+        (line_text place.entry.is_below (meanings_of names.now) place.entry.line.now)
+        ≡ Ok plain.new.text.items) }
+    ensures origins { OnOk result
+        (plain.new.origins.items ≡ plain.old.origins.items ++ place.entry.number ∷ []) }
+    ensures fault { IfErr result (λ fault.
+        Told fault (line_text place.entry.is_below (meanings_of names.now) place.entry.line.now)) }
 {
-    put_line(alloc, names, line, &mut plain.text)?;
-    plain.origins.push(number)?;
+    put_line(alloc, names, place.is_below, place.line, &mut plain.text)?;
+    plain.origins.push(place.number)?;
     Ok(())
 }
 
 fn plain_with(alloc: Global, names: &Names, source: &[u8]) -> Result<PlainSource, DialectFault>
     ensures ok { IfOk result (λ p.
-        put_lines (meanings_of names.now) 1 (lines_of source.now) no_lines ≡ Ok (plain_of p)) }
+        plain_lines false (meanings_of names.now) 1 (lines_of source.now) ≡ Ok (plain_of p)) }
     ensures fault { IfErr result
-        (λ fault. FaultedAt fault (put_lines (meanings_of names.now) 1 (lines_of source.now) no_lines)) }
+        (λ fault. FaultedAt fault (plain_lines false (meanings_of names.now) 1 (lines_of source.now))) }
 {
     let mut plain = PlainSource {
         text: Vec::with_capacity(alloc, source.len())?,
@@ -144,8 +254,15 @@ fn plain_with(alloc: Global, names: &Names, source: &[u8]) -> Result<PlainSource
     };
     let mut rest = source;
     let mut number = 1;
+    let mut ended = false;
     while let Some((line, after)) = first_line(rest) {
-        if let Err(fault) = put_next(alloc, names, number, line, &mut plain) {
+        ended = is_below(ended, line);
+        let place = Place {
+            line,
+            number,
+            is_below: ended,
+        };
+        if let Err(fault) = put_next(alloc, names, place, &mut plain) {
             return Err(fault_at(fault, number));
         }
         rest = after;
@@ -167,11 +284,13 @@ fn translated(alloc: Global, source: &[u8]) -> Result<PlainSource, DialectFault>
 ///
 /// # Errors
 ///
-/// The lines are gone through twice: first for the names that they set, and then for what stands for each.
-/// The first line at fault in the first pass is answered, else the first in the second. `Memory`: an
-/// allocation failed.
+/// The lines are gone through three times: for the names that they set, for those names whose values need one
+/// that a line further down sets, and for what stands for each line. The first line at fault is answered, by the
+/// earliest of these times. `Memory`: an allocation failed.
 pub fn plain_source(alloc: Global, source: &[u8]) -> Result<PlainSource, DialectFault>
     ensures ok { IfOk result (λ p. translated source.now ≡ Ok (plain_of p)) }
+    ensures lines { IfOk result
+        (λ p. length (lines_of p.text.items) ≡ length (lines_of source.now)) }
     ensures origins { IfOk result
         (λ p. p.origins.items ≡ range_with_len 1 (length (lines_of source.now))) }
     ensures fault { IfErr result (λ fault. FaultedAt fault (translated source.now)) }

@@ -2,11 +2,12 @@ ghost use Rattle.std.specs.Prelude.{◌≡◌, ◌++◌, [], IfOk, IfErr, OnOk, 
 ghost use Rattle.std.specs.List.{cons_option};
 ghost use Rattle.objasm.specs.Names.{Told, meanings_of};
 ghost use Rattle.objasm.specs.Parts.{part_of};
-ghost use Rattle.objasm.specs.Symbols.{after_byte, after_run, at_last, begins_number, number_of};
-ghost use Rattle.objasm.specs.Symbols.{operator_named};
-ghost use Rattle.objasm.specs.Symbols.{quoted, reading_step, sign, symbols_in};
+ghost use Rattle.objasm.specs.Symbols.{after_byte, after_greater, after_less, after_run, at_last};
+ghost use Rattle.objasm.specs.Symbols.{begins_number, goes_on, number_of, operator_named, quoted};
+ghost use Rattle.objasm.specs.Symbols.{reading_step, sign, sign_or, symbols_in};
 ghost use Rattle.objasm.specs.declared.symbols.Reading.TheVariants.{Ready};
 
+use crate::exchanges::from;
 use crate::faults::LineFault;
 use crate::names::Names;
 use crate::numbers::read_numeral;
@@ -24,6 +25,8 @@ pub enum Symbol {
     Operator(Binary),
     /// `:NOT:`
     Not,
+    /// `:LNOT:`
+    LogicalNot,
     /// `(`
     Open,
     /// `)`
@@ -37,9 +40,11 @@ pub enum Reading {
     Ready,
     /// The `&` in front of hexadecimal digits.
     Hex,
-    /// The first `<` of `<<`.
+    /// The `/` of `/=`.
+    Slash,
+    /// The first `<` of `<<`, `<=` and `<>`.
     Less,
-    /// The first `>` of `>>`.
+    /// The first `>` of `>>` and `>=`.
     Greater,
     /// The first `:` round the name of an operator.
     Colon,
@@ -67,6 +72,10 @@ fn operator_named(name: &[u8]) -> Option<Symbol>
         b"OR" => Some(Symbol::Operator(Binary::Or)),
         b"EOR" => Some(Symbol::Operator(Binary::Eor)),
         b"NOT" => Some(Symbol::Not),
+        b"LAND" => Some(Symbol::Operator(Binary::Both)),
+        b"LOR" => Some(Symbol::Operator(Binary::Either)),
+        b"LEOR" => Some(Symbol::Operator(Binary::OneAlone)),
+        b"LNOT" => Some(Symbol::LogicalNot),
         _ => None,
     }
 }
@@ -120,21 +129,43 @@ fn after_run(names: &Names, reading: Reading, run: &[u8]) -> Result<Step, LineFa
     }
 }
 
-// What a byte is by itself: a symbol, or the beginning of one.
-fn sign(b: u8) -> Result<Step, LineFault>
-    ensures { result ≡ sign b }
+// Whether the next part is one of these bytes.
+fn goes_on(tokens: &[Token<'_>], bytes: &[u8]) -> bool
+    ensures { result ≡ goes_on bytes.now (map part_of tokens.now) }
+{
+    match tokens {
+        [Token::Byte(b), ..] => bytes.contains(b),
+        _ => false,
+    }
+}
+
+// A sign of one byte, where no byte after it makes it another.
+fn sign_or(alone: Binary, begun: Reading, is_begun: bool) -> Result<Step, LineFault>
+    ensures { result ≡ sign_or alone begun is_begun }
+{
+    if is_begun {
+        Ok((None, begun))
+    } else {
+        Ok((Some(Symbol::Operator(alone)), Reading::Ready))
+    }
+}
+
+// What a byte is by itself, with what follows it: a symbol, or the beginning of one.
+fn sign(b: u8, rest: &[Token<'_>]) -> Result<Step, LineFault>
+    ensures { result ≡ sign b (map part_of rest.now) }
 {
     match b {
         b' ' | b'\t' => Ok((None, Reading::Ready)),
         b'+' => Ok((Some(Symbol::Operator(Binary::Plus)), Reading::Ready)),
         b'-' => Ok((Some(Symbol::Operator(Binary::Minus)), Reading::Ready)),
         b'*' => Ok((Some(Symbol::Operator(Binary::Times)), Reading::Ready)),
-        b'/' => Ok((Some(Symbol::Operator(Binary::Over)), Reading::Ready)),
+        b'/' => sign_or(Binary::Over, Reading::Slash, goes_on(rest, b"=")),
+        b'=' => Ok((Some(Symbol::Operator(Binary::Equal)), Reading::Ready)),
         b'(' => Ok((Some(Symbol::Open), Reading::Ready)),
         b')' => Ok((Some(Symbol::Close), Reading::Ready)),
         b'&' => Ok((None, Reading::Hex)),
-        b'<' => Ok((None, Reading::Less)),
-        b'>' => Ok((None, Reading::Greater)),
+        b'<' => sign_or(Binary::Less, Reading::Less, goes_on(rest, b"<=>")),
+        b'>' => sign_or(Binary::Greater, Reading::Greater, goes_on(rest, b"=>")),
         b':' => Ok((None, Reading::Colon)),
         b'\'' => Ok((None, Reading::Quote)),
         _ => Err(LineFault::BadExpression),
@@ -152,13 +183,37 @@ fn at_last(b: u8, last: u8, symbol: Symbol) -> Result<Step, LineFault>
     }
 }
 
-fn after_byte(reading: Reading, b: u8) -> Result<Step, LineFault>
-    ensures { result ≡ after_byte reading b }
+// The sign that begins with `<`, by its second byte.
+fn after_less(b: u8) -> Result<Step, LineFault>
+    ensures { result ≡ after_less b }
+{
+    match b {
+        b'<' => Ok((Some(Symbol::Operator(Binary::Shl)), Reading::Ready)),
+        b'=' => Ok((Some(Symbol::Operator(Binary::AtMost)), Reading::Ready)),
+        b'>' => Ok((Some(Symbol::Operator(Binary::Unequal)), Reading::Ready)),
+        _ => Err(LineFault::BadExpression),
+    }
+}
+
+// The same of `>`.
+fn after_greater(b: u8) -> Result<Step, LineFault>
+    ensures { result ≡ after_greater b }
+{
+    match b {
+        b'>' => Ok((Some(Symbol::Operator(Binary::Shr)), Reading::Ready)),
+        b'=' => Ok((Some(Symbol::Operator(Binary::AtLeast)), Reading::Ready)),
+        _ => Err(LineFault::BadExpression),
+    }
+}
+
+fn after_byte(reading: Reading, b: u8, rest: &[Token<'_>]) -> Result<Step, LineFault>
+    ensures { result ≡ after_byte reading b (map part_of rest.now) }
 {
     match reading {
-        Reading::Ready => sign(b),
-        Reading::Less => at_last(b, b'<', Symbol::Operator(Binary::Shl)),
-        Reading::Greater => at_last(b, b'>', Symbol::Operator(Binary::Shr)),
+        Reading::Ready => sign(b, rest),
+        Reading::Slash => at_last(b, b'=', Symbol::Operator(Binary::Unequal)),
+        Reading::Less => after_less(b),
+        Reading::Greater => after_greater(b),
         Reading::Named(symbol) => at_last(b, b':', symbol),
         Reading::Quote => Ok((None, Reading::Quoted(b))),
         Reading::Quoted(character) => at_last(b, b'\'', Symbol::Number(u32::from(character))),
@@ -166,12 +221,14 @@ fn after_byte(reading: Reading, b: u8) -> Result<Step, LineFault>
     }
 }
 
-fn reading_step(names: &Names, reading: Reading, token: Token<'_>) -> Result<Step, LineFault>
-    ensures { result ≡ reading_step (meanings_of names.now) reading (part_of token.entry) }
+// The first part of some, read.
+fn reading_step(names: &Names, reading: Reading, tokens: &[Token<'_>]) -> Result<Step, LineFault>
+    ensures { result ≡ reading_step (meanings_of names.now) reading (map part_of tokens.now) }
 {
-    match token {
-        Token::Run(run) => after_run(names, reading, run),
-        Token::Byte(b) => after_byte(reading, b),
+    match tokens {
+        [Token::Run(run), ..] => after_run(names, reading, run),
+        [Token::Byte(b), rest @ ..] => after_byte(reading, *b, rest),
+        _ => Err(LineFault::BadExpression),
     }
 }
 
@@ -197,8 +254,8 @@ pub(crate) fn symbols_in(
 {
     let mut found = Vec::new(alloc);
     let mut reading = Reading::Ready;
-    for token in tokens {
-        match reading_step(names, reading, *token) {
+    for index in 0..tokens.len() {
+        match reading_step(names, reading, from(tokens, index)) {
             Ok((symbol, next)) => {
                 push_some(&mut found, symbol)?;
                 reading = next;

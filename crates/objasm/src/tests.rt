@@ -2,14 +2,14 @@ use crate::faults::LineFault;
 use crate::source::{DialectFault, plain_source};
 
 // Texts of the dialect, and what stands for them.
-const TEXTS: [(&[u8], &[u8]); 14] = [
+const TEXTS: [(&[u8], &[u8]); 18] = [
     (
         b"a EQU 1\n b\n MOV R0,#a+2*3\n",
         b" ; a EQU 1\n b\n MOV R0,#7 ;  MOV R0,#a+2*3\n",
     ),
     (
         b"x * &10 ; sixteen\n DCD x,lab, x:SHL:2 + 1 ,-1\n",
-        b" ; x * &10 ; sixteen\n DCD 16,lab,65,4294967295 ;  DCD x,lab, x:SHL:2 + 1 ,-1\n",
+        b" ; x * &10 ; sixteen\n DCD 16,lab, 65,4294967295 ;  DCD x,lab, x:SHL:2 + 1 ,-1\n",
     ),
     (
         b"p_ EQU 4\nq rn p_+1\n MOV q,Q\n",
@@ -21,11 +21,11 @@ const TEXTS: [(&[u8], &[u8]); 14] = [
     ),
     (
         b" MOVHS R0,R1,LSL #2+1\n blo lab ; b\n BLHS x\n CMPLOP R1,#':'\n BICHSS R1,R1,#'A'",
-        b" MOVCS R0,R1,LSL #3 ;  MOVHS R0,R1,LSL #2+1\n bcc lab  ;  blo lab ; b\n BLCS x ;  BLHS x\n CMPCCP R1,#58 ;  CMPLOP R1,#':'\n BICCSS R1,R1,#65 ;  BICHSS R1,R1,#'A'\n",
+        b" MOVCS R0,R1,LSL #3 ;  MOVHS R0,R1,LSL #2+1\n bcc lab ;  blo lab ; b\n BLCS x ;  BLHS x\n CMPCCP R1,#58 ;  CMPLOP R1,#':'\n BICCSS R1,R1,#65 ;  BICHSS R1,R1,#'A'\n",
     ),
     (
         b" ORG &8000+4*2\n SWI 1<<17\n DCD (2+3)*4, 10/3, 10:MOD:3, -2-3, :NOT:0, 2+3:SHL:1, 1:OR:6:AND:4\n",
-        b" ORG 32776 ;  ORG &8000+4*2\n SWI 131072 ;  SWI 1<<17\n DCD 20,3,1,4294967291,4294967295,8,4 ;  DCD (2+3)*4, 10/3, 10:MOD:3, -2-3, :NOT:0, 2+3:SHL:1, 1:OR:6:AND:4\n",
+        b" ORG 32776 ;  ORG &8000+4*2\n SWI 131072 ;  SWI 1<<17\n DCD 20, 3, 1, 4294967291, 4294967295, 8, 4 ;  DCD (2+3)*4, 10/3, 10:MOD:3, -2-3, :NOT:0, 2+3:SHL:1, 1:OR:6:AND:4\n",
     ),
     (
         b" ADD R0, R1 , # 4\nlab\n",
@@ -41,29 +41,59 @@ const TEXTS: [(&[u8], &[u8]); 14] = [
     ),
     (
         b" MOV R0,#-1,0\n ADD R0,R1,R2,LSL #31\n MOV R0,#&102\n SUB R1,R1,#256\n ORR R0,R0,#-1\n",
-        b" MVN R0,#0,0 ;  MOV R0,#-1,0\n ADD R0,R1,R2,LSL #31\n MOV R0,#258 ;  MOV R0,#&102\n SUB R1,R1,#256\n ORR R0,R0,#4294967295 ;  ORR R0,R0,#-1\n",
+        b" MVN R0,#0,0 ;  MOV R0,#-1,0\n ADD R0,R1,R2,LSL #31\n MOV R0,#&102\n SUB R1,R1,#256\n ORR R0,R0,#4294967295 ;  ORR R0,R0,#-1\n",
     ),
     (
         b" DCD 2_1010,9_17,0x1F,8_777\n",
-        b" DCD 10,16,31,511 ;  DCD 2_1010,9_17,0x1F,8_777\n",
+        b" DCD 10,16,0x1F,511 ;  DCD 2_1010,9_17,0x1F,8_777\n",
     ),
     (
         b"x NOP ; none\n nop\n",
-        b"x MOV R0,R0  ; x NOP ; none\n MOV R0,R0 ;  nop\n",
+        b"x MOV R0,R0 ; x NOP ; none\n MOV R0,R0 ;  nop\n",
     ),
     (
         b"A0 EQU 16\n B &A0\n LDR R1,A0\n",
         b" ; A0 EQU 16\n B &A0\n LDR R1,A0\n",
     ),
+    (
+        b" MOV R0,#2   ; two\n DCD &10 , 0x1F,7 ; three\n LDR R0,[R1,#&10 ]\n SUB R0,R0,#1 \t\n",
+        b" MOV R0,#2   ; two\n DCD &10, 0x1F,7 ;  DCD &10 , 0x1F,7 ; three\n LDR R0,[R1,#&10] ;  LDR R0,[R1,#&10 ]\n SUB R0,R0,#1 \t\n",
+    ),
+    (
+        b"A0 RN 5\n DCD &A0, &a0\n LDR A0,[A0],#4294967292\n SWI &11 ; stop\n",
+        b" ; A0 RN 5\n DCD &A0, &a0\n LDR R5,[R5],#-4 ;  LDR A0,[A0],#4294967292\n SWI &11 ; stop\n",
+    ),
+    (
+        b"a EQU b + 1\nf RN last\nb EQU 2\nlast EQU 12\n MOV f,#a\n",
+        b" ; a EQU b + 1\n ; f RN last\n ; b EQU 2\n ; last EQU 12\n MOV R12,#3 ;  MOV f,#a\n",
+    ),
+    (
+        b" TTL Card\n AREA |Code|, CODE, READONLY\n ENTRY\nn EQU 2\n ASSERT n<4 :LAND: (n:SHL:1=4)\n ASSERT :LNOT:(n>=3)\nl KEEP\n MOV R0,#n\n END\nn EQU 3\n\n GARBAGE,\n",
+        b" ;  TTL Card\n ;  AREA |Code|, CODE, READONLY\n ;  ENTRY\n ; n EQU 2\n ;  ASSERT n<4 :LAND: (n:SHL:1=4)\n ;  ASSERT :LNOT:(n>=3)\nl ; l KEEP\n MOV R0,#2 ;  MOV R0,#n\n ;  END\n ; n EQU 3\n\n ;  GARBAGE,\n",
+    ),
     (b"", b""),
 ];
 
 // Texts that are refused.
-const REFUSED: [(&[u8], LineFault, usize); 13] = [
+const REFUSED: [(&[u8], LineFault, usize); 27] = [
+    (b"\n NOP R0\n", LineFault::BadOperand, 2),
     (b" MOV R0,#1\n LTORG\n", LineFault::UnknownDirective, 2),
     (b" = 1,2\n", LineFault::UnknownDirective, 1),
     (b"a EQU 1\na * 2\n", LineFault::NameTwice, 2),
-    (b"a EQU b\nb EQU 1\n", LineFault::NameMissing, 1),
+    (b"a EQU b\nb EQU c\nc EQU 1\n", LineFault::NameMissing, 1),
+    (b"b EQU 1\na EQU a+b\n", LineFault::NameMissing, 2),
+    (b"a EQU b\nb EQU a\n", LineFault::NameMissing, 1),
+    (b"a EQU b\na EQU 1\nb EQU 2\n", LineFault::NameTwice, 2),
+    (b"a RN b\nb EQU 16\n", LineFault::BadRegister, 1),
+    (b" MOV R0,#1=1\n", LineFault::NotANumber, 1),
+    (b" ASSERT 4\n", LineFault::NotLogical, 1),
+    (b"n EQU 4\n ASSERT n/=4\n", LineFault::AssertionFailed, 2),
+    (b" ASSERT n=4\n", LineFault::NameMissing, 1),
+    (b"END\n IMPORT x\n", LineFault::UnknownDirective, 2),
+    (b" MOV R0,#1+(1=1)\n", LineFault::NoValue, 1),
+    (b" MOV R0,#1:LAND:2\n", LineFault::NoValue, 1),
+    (b" MOV R0,#1< \n", LineFault::BadExpression, 1),
+    (b" MOV R0,#1< >2\n", LineFault::BadExpression, 1),
     (b"R5 RN 6\n", LineFault::BadName, 1),
     (b"f RN 16\n", LineFault::BadRegister, 1),
     (b" MOV R0,#1/0\n", LineFault::NoValue, 1),

@@ -1,8 +1,8 @@
 //! The words of ObjAsm that have a meaning of their own.
 
 ghost use Rattle.std.specs.Prelude.{◌≡◌, ◌++◌, OnOk, map};
-ghost use Rattle.objasm.specs.Words.{cond_place, is_directive, is_nop, is_one_of, kind_of, known_cond};
-ghost use Rattle.objasm.specs.Words.{word_text};
+ghost use Rattle.objasm.specs.Words.{cond_place, is_assert, is_directive, is_nop, is_one_of, is_silent};
+ghost use Rattle.objasm.specs.Words.{kind_of, known_cond, word_text};
 
 use crate::exchanges::Flip;
 use std::alloc::AllocError;
@@ -24,13 +24,17 @@ const VALUE_WORDS: [&[u8]; 6] = [b"DCD", b"ORG", b"SWI", b"dcd", b"org", b"swi"]
 
 const OFFSET_WORDS: [&[u8]; 4] = [b"LDR", b"STR", b"ldr", b"str"];
 
-const DIRECTIVES: [&[u8]; 56] = [
-    b"ADRL", b"ALIGN", b"AOF", b"AOUT", b"AREA", b"ASSERT", b"BIN", b"CN", b"CP", b"DATA", b"DCB",
-    b"DCFD", b"DCFS", b"DCW", b"ELSE", b"END", b"ENDIF", b"ENTRY", b"EQU", b"EXPORT", b"FN",
-    b"GBLA", b"GBLL", b"GBLS", b"GET", b"GLOBAL", b"IF", b"IMPORT", b"INCBIN", b"INCLUDE", b"INFO",
-    b"KEEP", b"LCLA", b"LCLL", b"LCLS", b"LEAF", b"LIB", b"LNK", b"LTORG", b"MACRO", b"MEND",
-    b"MEXIT", b"NOFP", b"OPT", b"RLIST", b"RN", b"ROUT", b"SETA", b"SETL", b"SETS", b"SPACE",
-    b"STRONG", b"SUBT", b"TTL", b"WEND", b"WHILE",
+// Directives that stand for nothing here.
+const SILENT: [&[u8]; 7] = [
+    b"AREA", b"ENTRY", b"EXPORT", b"KEEP", b"OPT", b"SUBT", b"TTL",
+];
+
+const DIRECTIVES: [&[u8]; 48] = [
+    b"ADRL", b"ALIGN", b"AOF", b"AOUT", b"BIN", b"CN", b"CP", b"DATA", b"DCB", b"DCFD", b"DCFS",
+    b"DCW", b"ELSE", b"END", b"ENDIF", b"EQU", b"FN", b"GBLA", b"GBLL", b"GBLS", b"GET", b"GLOBAL",
+    b"IF", b"IMPORT", b"INCBIN", b"INCLUDE", b"INFO", b"LCLA", b"LCLL", b"LCLS", b"LEAF", b"LIB",
+    b"LNK", b"LTORG", b"MACRO", b"MEND", b"MEXIT", b"NOFP", b"RLIST", b"RN", b"ROUT", b"SETA",
+    b"SETL", b"SETS", b"SPACE", b"STRONG", b"WEND", b"WHILE",
 ];
 
 /// Whether a word is one of those.
@@ -43,6 +47,20 @@ pub(crate) fn is_one_of(words: &[&[u8]], word: &[u8]) -> bool
         }
     }
     false
+}
+
+/// Whether a word is a directive that stands for nothing here.
+pub(crate) fn is_silent(word: &[u8]) -> bool
+    ensures { result ≡ is_silent word.now }
+{
+    is_one_of(&SILENT, word)
+}
+
+/// Whether a word is ASSERT.
+pub(crate) fn is_assert(word: &[u8]) -> bool
+    ensures { result ≡ is_assert word.now }
+{
+    word == b"ASSERT".as_slice()
 }
 
 /// Whether a word is a directive of ObjAsm that is not translated.

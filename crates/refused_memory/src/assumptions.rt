@@ -5,7 +5,7 @@ use crate::trial::Answer;
 use arcwcet::ReportFault;
 use bus_ticks::Profile;
 use loop_bounds::Handler;
-use sources::Source;
+use sources::{Source, SourceFile};
 use std::alloc::{AllocError, Global};
 use std::collections::BTreeSet;
 use text_explained::{assumed_text, done_text};
@@ -106,7 +106,7 @@ impl AssumedCall {
 
     // The source that the call reports by.
     fn source(self, alloc: Global) -> Result<Source<'static>, ReportFault> {
-        let source = Source::read(alloc, SOURCE)?;
+        let source = Source::read(alloc, SourceFile::plain(SOURCE))?;
         match self {
             AssumedCall::Source | AssumedCall::SourceDone => Ok(source),
             AssumedCall::Image | AssumedCall::ImageDone => Ok(image_of(source)),

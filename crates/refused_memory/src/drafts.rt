@@ -1,8 +1,8 @@
 use crate::trial::Answer;
 use arcwcet::ReportFault;
-use sources::Source;
-use std::alloc::Global;
-use text_draft::draft;
+use sources::{Source, SourceFile};
+use std::alloc::{AllocError, Global};
+use text_draft::{Claims, draft, find_parts};
 
 /// A byte of a device, a loop that is counted, and a jump through a table that is none.
 pub(crate) const SOURCE: &[u8] = b"start MOV R1,#&3200000\nread LDRB R0,[R1]\n MOV R2,#3\n\
@@ -25,7 +25,7 @@ access = [
 header = \"again\"  # line 4: again SUBS R2,R2,#1
 first = \"again\"  # line 4: again SUBS R2,R2,#1
 last = \"turn\"  # line 5: turn BNE again
-bound = \"?\"  # 2, if no other way leads into the loop
+bound = \"?\"  # looks like 2
 
 [[target]]
 at = \"jump\"  # line 6: jump ADD PC,PC,R0,LSL #2
@@ -55,17 +55,23 @@ to = [0x801C, \"?\"]
 header = \"again\"  # line 4: again SUBS R2,R2,#1
 first = \"again\"  # line 4: again SUBS R2,R2,#1
 last = \"turn\"  # line 5: turn BNE again
-bound = \"?\"  # 2, if no other way leads into the loop
+bound = \"?\"  # looks like 2
 ";
 
-/// The draft of a handler. It changes no value.
+fn draft_at_8000(alloc: Global, source: &Source<'_>) -> Result<Vec<u8>, AllocError> {
+    let mut found = find_parts(alloc, &source.image, 0x8000)?;
+    found.claim(alloc, &source.image, &Claims::none(alloc))?;
+    draft(alloc, source, 0x8000, &found)
+}
+
+/// The draft of a handler that claims nothing to be proved. It changes no value.
 #[derive(Clone, Copy)]
 pub(crate) struct Drafted;
 
 impl Drafted {
     /// Makes the call, and answers what it did.
     pub(crate) fn made(self, alloc: Global) -> Result<Answer, ReportFault> {
-        let source = Source::read(alloc, SOURCE)?;
-        Ok(Answer::of_text(draft(alloc, &source, 0x8000), DRAFT))
+        let source = Source::read(alloc, SourceFile::plain(SOURCE))?;
+        Ok(Answer::of_text(draft_at_8000(alloc, &source), DRAFT))
     }
 }

@@ -1,5 +1,7 @@
 ghost use Rattle.std.specs.Prelude.{◌≡◌};
+ghost use Rattle.longest_walk.specs.Folded.{unfolded};
 ghost use Rattle.loop_bounds.specs.Tree.{IsTree};
+ghost use Rattle.walk_counts.specs.Counts.{AreCounts};
 
 use crate::analysis::{accepted_on, image_of};
 use crate::trial::Answer;
@@ -9,7 +11,7 @@ use flow_graph::Graph;
 use longest_walk::{Longest, longest};
 use loop_bounds::Handler;
 use samples::nested_countdown::{SOURCE, STATEMENT};
-use sources::Source;
+use sources::{Source, SourceFile};
 use std::alloc::Global;
 use text_explained::{RowForm, TimedWalk, cost_table};
 use walk_counts::edge_counts;
@@ -62,7 +64,8 @@ fn table(
     walk: TimedWalk<'_>,
     expected: &'static [u8],
 ) -> Answer
-    requires { handler.now.image.now ≡ source.now.image }
+    requires image { handler.now.image.now ≡ source.now.image }
+    requires counts { AreCounts handler.now.graph.edges (unfolded walk.longest.now.walk) walk.counts.now }
 {
     let form = RowForm {
         all: false,
@@ -91,9 +94,11 @@ impl ExplainedCall {
     {
         let found = longest(alloc, &handler.graph, &handler.tree)?;
         let starts = NESTED_STARTS;
+        let counts = edge_counts(alloc, &handler.graph, &found.walk)?;
         let timed = TimedWalk {
             longest: &found,
             starts: starts.as_slice(),
+            counts: &counts,
             first: None,
         };
         match self {
@@ -120,7 +125,7 @@ impl ExplainedCall {
 
     // The source that the call explains by.
     fn source(self, alloc: Global) -> Result<Source<'static>, ReportFault> {
-        let source = Source::read(alloc, SOURCE)?;
+        let source = Source::read(alloc, SourceFile::plain(SOURCE))?;
         match self {
             ExplainedCall::Words => Ok(image_of(source)),
             ExplainedCall::Lines | ExplainedCall::Counts => Ok(source),

@@ -15,7 +15,7 @@ use kept_runs::{Followed, VisitedHandlers, VisitedRun, follow, follow_visited};
 use loader::{Image, load};
 use loop_bounds::Handler;
 use memc::PageSize;
-use sources::Source;
+use sources::{Source, SourceFile};
 use std::alloc::Global;
 
 /// A countdown from 3 at the address of a machine that was reset. It lets FIQ interrupt it, in R15 and in
@@ -115,7 +115,7 @@ fn with_visit(alloc: Global, handlers: VisitedHandlers<'_>, machine: &mut Machin
 impl FollowCall {
     /// Makes the call, and answers what it did. Where it is refused, it compares the machine.
     pub(crate) fn made(self, alloc: Global) -> Result<Answer, ReportFault> {
-        let said = Source::read(alloc, SOURCE)?;
+        let said = Source::read(alloc, SourceFile::plain(SOURCE))?;
         let answer = self.on(alloc, &said);
         drop(said);
         answer

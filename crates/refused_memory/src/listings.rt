@@ -2,7 +2,7 @@ use crate::analysis::image_of;
 use crate::trial::Answer;
 use arcwcet::ReportFault;
 use assembler::{AsmFault, PlacedLine, placed_lines};
-use sources::Source;
+use sources::{Source, SourceFile};
 use std::alloc::Global;
 use text_listing::list_rows;
 
@@ -59,13 +59,13 @@ fn placed(alloc: Global) -> Answer {
 }
 
 fn source_rows(alloc: Global) -> Result<Answer, ReportFault> {
-    let source = Source::read(alloc, LINES)?;
+    let source = Source::read(alloc, SourceFile::plain(LINES))?;
     Ok(Answer::of_text(list_rows(alloc, &source), SOURCE_ROWS))
 }
 
 // The rows of the same words, as of an image.
 fn image_rows(alloc: Global) -> Result<Answer, ReportFault> {
-    let source = Source::read(alloc, LINES)?;
+    let source = Source::read(alloc, SourceFile::plain(LINES))?;
     let image = image_of(source);
     Ok(Answer::of_text(list_rows(alloc, &image), IMAGE_ROWS))
 }

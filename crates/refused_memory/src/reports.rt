@@ -1,11 +1,11 @@
 use crate::trial::{Answer, Trial};
 use crate::{drafts, followed};
 use arcwcet::{
-    AskedResponse, Bursts, DrawnHandler, Explained, Extent, FollowedRun, FollowedVisits,
-    MemoryOutput, Output, ReportFault, RowForm, TableForm, VisitRate, VisitedHandler, asm_report,
-    bound_report, check_report, debug_report, draft_on_report, draft_report, explain_report,
-    fault_only, follow_report, follow_visits_report, graph_report, list_report, respond_report,
-    run_report, tight_report, trace_report, visits_report,
+    AskedResponse, Bursts, Dialect, DrawnHandler, Explained, Extent, FollowedRun, FollowedVisits,
+    MemoryOutput, Output, ReportFault, RowForm, SourceFile, TableForm, VisitRate, VisitedHandler,
+    asm_report, bound_report, check_report, debug_report, draft_on_report, draft_report,
+    explain_report, fault_only, follow_report, follow_visits_report, graph_report, list_report,
+    respond_report, run_report, tight_report, trace_report, visits_report,
 };
 use samples::{countdown, nested_countdown};
 use std::alloc::{AllocError, Global};
@@ -42,7 +42,7 @@ returns = \"stated\"
 header = \"again\"  # line 2: again SUBS R0,R0,#1
 first = \"again\"  # line 2: again SUBS R0,R0,#1
 last = \"turn\"  # line 3: turn BNE again
-bound = 2  # counted, if no [[target]] leads into the loop
+bound = 2  # proved
 
 [[target]]
 at = 0x0000800C  # line 4:  SUBS PC,R14,#4
@@ -93,9 +93,15 @@ const COUNTDOWN: &[u8] = b" ORG &8000\n\
 const FIQ_SOURCE: &[u8] = b" ORG &1C\nfiq SUBS PC,R14,#4\n";
 
 const INTERRUPTED: VisitedHandler<'static> = VisitedHandler {
-    source: COUNTDOWN,
+    source: SourceFile {
+        dialect: Dialect::Plain,
+        bytes: COUNTDOWN,
+    },
     irq: IRQ_STATEMENT,
-    fiq_source: Some(FIQ_SOURCE),
+    fiq_source: Some(SourceFile {
+        dialect: Dialect::Plain,
+        bytes: FIQ_SOURCE,
+    }),
     fiq: FIQ_STATEMENT,
     rate: VisitRate::Times(2),
 };
@@ -201,7 +207,10 @@ bound 50 ticks, 6.250 microseconds at 8 MHz
 
 // Its bound is exactly as much as it may be.
 const EXPLAINED: Explained<'static> = Explained {
-    source: nested_countdown::SOURCE,
+    source: SourceFile {
+        dialect: Dialect::Plain,
+        bytes: nested_countdown::SOURCE,
+    },
     statement: nested_countdown::STATEMENT,
     at_most: Some(50),
     bursts: Bursts {
@@ -220,20 +229,29 @@ const EXPLAINED: Explained<'static> = Explained {
 };
 
 const DRAWN_HANDLER: DrawnHandler<'static> = DrawnHandler {
-    source: countdown::SOURCE,
+    source: SourceFile {
+        dialect: Dialect::Plain,
+        bytes: countdown::SOURCE,
+    },
     statement: countdown::STATEMENT,
     extent: Extent::Whole,
 };
 
 const FOLLOWED_RUN: FollowedRun<'static> = FollowedRun {
-    source: countdown::SOURCE,
+    source: SourceFile {
+        dialect: Dialect::Plain,
+        bytes: countdown::SOURCE,
+    },
     statement: countdown::STATEMENT,
     machine: countdown::MACHINE,
 };
 
 // FIQ's line is active from the start.
 const VISITED_RUN: FollowedVisits<'static> = FollowedVisits {
-    source: followed::SOURCE,
+    source: SourceFile {
+        dialect: Dialect::Plain,
+        bytes: followed::SOURCE,
+    },
     statement: followed::STATEMENT,
     fiq_statement: followed::FIQ_STATEMENT,
     machine: b"pc = 0\nmode = \"svc\"\nsteps = 19\n[[event]]\nstep = 0\nlines = [\"F0\"]\n",
@@ -267,7 +285,7 @@ fn write_response(alloc: Global, out: &mut MemoryOutput) -> Result<bool, ReportF
         Err(failed) => return Err(AllocError::from(failed).into()),
     };
     let asked = AskedResponse {
-        source: TWO_HANDLERS,
+        source: SourceFile::plain(TWO_HANDLERS),
         statement: FIQ_STATEMENT,
         label: b"fiq",
         longest: None,
@@ -322,18 +340,21 @@ impl Report {
     }
 
     fn write_of_source(self, alloc: Global, out: &mut MemoryOutput) -> Result<(), ReportFault> {
-        let source = countdown::SOURCE;
+        let source = SourceFile::plain(countdown::SOURCE);
         match self {
             Report::List => list_report(alloc, source, out),
             Report::Debug => debug_report(alloc, source, countdown::MACHINE, COMMANDS, None, out),
             Report::Draft => draft_report(alloc, source, b"start", out),
-            Report::DraftOn => draft_on_report(alloc, drafts::SOURCE, drafts::BEGUN, out),
+            Report::DraftOn => {
+                let begun_on = SourceFile::plain(drafts::SOURCE);
+                draft_on_report(alloc, begun_on, drafts::BEGUN, out)
+            },
             _ => asm_report(alloc, source, out),
         }
     }
 
     fn write_of_machine(self, alloc: Global, out: &mut MemoryOutput) -> Result<bool, ReportFault> {
-        let (source, machine) = (countdown::SOURCE, countdown::MACHINE);
+        let (source, machine) = (SourceFile::plain(countdown::SOURCE), countdown::MACHINE);
         match self {
             Report::Trace => trace_report(alloc, source, machine, None, out),
             Report::Follow => fault_only(follow_report(alloc, FOLLOWED_RUN, None, out)),
@@ -343,7 +364,8 @@ impl Report {
     }
 
     fn write_of_bound(self, alloc: Global, out: &mut MemoryOutput) -> Result<bool, ReportFault> {
-        let (source, statement) = (nested_countdown::SOURCE, nested_countdown::STATEMENT);
+        let source = SourceFile::plain(nested_countdown::SOURCE);
+        let statement = nested_countdown::STATEMENT;
         let certificate = nested_countdown::CERTIFICATE;
         match self {
             Report::Explain => fault_only(explain_report(alloc, EXPLAINED, None, out)),
@@ -352,13 +374,14 @@ impl Report {
     }
 
     fn write_of_handler(self, alloc: Global, out: &mut MemoryOutput) -> Result<(), ReportFault> {
-        let (source, statement) = (countdown::SOURCE, countdown::STATEMENT);
+        let (source, statement) = (SourceFile::plain(countdown::SOURCE), countdown::STATEMENT);
         match self {
             Report::Visits => fault_only(visits_report(alloc, INTERRUPTED, None, out)).and(Ok(())),
             Report::Tight => tight_report(alloc, source, statement, EDGE, None, out),
             Report::Graph => fault_only(graph_report(alloc, DRAWN_HANDLER, None, out)),
             _ => {
-                let (source, statement) = (nested_countdown::SOURCE, nested_countdown::STATEMENT);
+                let source = SourceFile::plain(nested_countdown::SOURCE);
+                let statement = nested_countdown::STATEMENT;
                 bound_report(alloc, source, statement, None, out)
             }
         }
@@ -381,7 +404,13 @@ fn is_tight(alloc: Global, written: &[u8]) -> Result<bool, ReportFault> {
 // Whether a machine file runs for the ticks of the edge.
 fn runs_edge(alloc: Global, file: &[u8]) -> Result<bool, ReportFault> {
     let mut ran = MemoryOutput::with_room(alloc, ROOM)?;
-    let finished = run_report(alloc, countdown::SOURCE, file, None, &mut ran)?;
+    let finished = run_report(
+        alloc,
+        SourceFile::plain(countdown::SOURCE),
+        file,
+        None,
+        &mut ran,
+    )?;
     Ok(finished && ran.bytes().ends_with(EDGE_TICKS))
 }
 

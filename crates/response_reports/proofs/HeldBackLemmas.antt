@@ -18,6 +18,7 @@ use Rattle.handlers.proofs.RefusalLemmas.{then_of}
 use Rattle.handlers.proofs.ReportLemmas.{accepted_refusals}
 use Rattle.response_reports.specs.RespondReport.{AddUpTo, OneIsRefused}
 use Rattle.response_reports.specs.RespondWork.{IsBoundOf}
+use Rattle.sources.specs.File.{File}
 
 -- ## One bound, one sum
 
@@ -27,7 +28,7 @@ one_greatest flow st n m g h =
     let down = g.upper h.walk h.complete h.kept in
     omega (arith, up, down, g.costs, h.costs)
 
-module _ (source : List ℕ) (profile : Profile) where
+module _ (source : File) (profile : Profile) where
   pub one_bound : (statement : List ℕ) (r s : IsBounded source statement profile) → r.longest.bound ≡ s.longest.bound
   one_bound statement r s =
       let a = r.accepted in

@@ -16,8 +16,9 @@ use Rattle.response_reports.specs.RespondText.{response_of, visited_time}
 use Rattle.response_reports.specs.RespondWork.{AreTimed, AreTimedFor, AreTooManyFor, AreVisitsRefused, IsFiqBoundOf, IsVisitorBound}
 use Rattle.response_reports.specs.declared.visits.FiqVisits.{FiqVisits}
 use Rattle.response_reports.specs.declared.visits.VisitedTime.{VisitedTime}
+use Rattle.sources.specs.File.{File}
 
-module _ (profile : Profile) (p : ResponseParts) (source : List ℕ) (f : FiqQuestion) where
+module _ (profile : Profile) (p : ResponseParts) (source : File) (f : FiqQuestion) where
   -- FIQ's handler is refused
   pub visitor_refused : (e : ReportFault) → BeforeOutput (IsFiqsRefused source f.own f.statement profile) e → BeforeOutput (AreVisitsRefused profile p source (Some f)) e
   visitor_refused e h = (h.0, inl h.1)

@@ -5,12 +5,13 @@ use Rattle.handlers.specs.FiqHandler.{fiq_bytes}
 use Rattle.handlers.specs.Refusal.{StatedSource}
 use Rattle.response_reports.specs.declared.asked.AskedFiq.{AskedFiq}
 use Rattle.response_reports.specs.declared.asked.AskedResponse.{AskedResponse}
+use Rattle.sources.specs.File.{File, file_of}
 
 -- FIQ's handler, which visits the response: its own source, if it is another one, and the statement on it;
 -- FIQ is asked for at most once in `every` ticks, and may have waited for so many ticks as the response
 -- begins
 pub record FiqQuestion : Type 0 where
-  pub own : Option (List ℕ)
+  pub own : Option File
   pub statement : List ℕ
   pub every : ℕ
   pub waited : Option ℕ
@@ -20,7 +21,7 @@ pub record FiqQuestion : Type 0 where
 -- the statements on the stretches of code that hold it back too; bursts; FIQ's visits; and the most ticks
 -- that are wanted
 pub record Question : Type 0 where
-  pub source : List ℕ
+  pub source : File
   pub statement : List ℕ
   pub label : List ℕ
   pub longest : Option ℕ
@@ -34,7 +35,7 @@ pub record Question : Type 0 where
 abbrev pub fiq_question : AskedFiq → FiqQuestion
 fiq_question asked =
     record {
-      own = option_map (λ f. f.now) asked.source;
+      own = option_map file_of asked.source;
       statement = asked.statement.now;
       every = asked.every;
       waited = asked.waited;
@@ -43,7 +44,7 @@ fiq_question asked =
 abbrev pub question_of : AskedResponse → Question
 question_of asked =
     record {
-      source = asked.source.now;
+      source = file_of asked.source;
       statement = asked.statement.now;
       label = asked.label.now;
       longest = asked.longest;
@@ -61,7 +62,7 @@ abbrev pub statements_of : Question → List (List ℕ)
 statements_of q = q.statement ∷ q.masked_by
 
 -- that of FIQ's handler, where it is asked for
-abbrev pub fiq_part : (source : List ℕ) → Option FiqQuestion → List StatedSource
+abbrev pub fiq_part : (source : File) → Option FiqQuestion → List StatedSource
 fiq_part source None = []
 fiq_part source (Some fiq) = (fiq_bytes source fiq.own, fiq.statement) ∷ []
 

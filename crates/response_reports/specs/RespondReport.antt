@@ -31,6 +31,7 @@ use Rattle.source_reports.specs.DraftReport.{entry_of}
 use Rattle.response_reports.specs.Question.{FiqQuestion, Question}
 use Rattle.response_reports.specs.RespondText.{IsResponseText, response_of, visited_time}
 use Rattle.response_reports.specs.declared.visits.FiqVisits.{FiqVisits}
+use Rattle.sources.specs.File.{File}
 
 -- ## What a response time bounds
 
@@ -61,7 +62,7 @@ RespondsVisited words fiq_words irq fiq flow fiq_flow address longest masked eve
 
 -- ## The stretches of code that hold the interrupt back, of a source
 
-module _ (source : List ℕ) (profile : Profile) where
+module _ (source : File) (profile : Profile) where
   -- the greatest costs of the stretches of these statements, together
   abbrev pub AddUpTo : (texts : List (List ℕ)) → (total : ℕ) → Type 0
   AddUpTo [] total = total ≡ 0
@@ -100,13 +101,13 @@ module _ (profile : Profile) (parts : ResponseParts) (fiq : FiqQuestion) (bound 
     pub large : COST_LIMIT ≤ visits_bound profile (response_of profile parts) bound visits
 
 -- it has a bound and begins at FIQ's vector, and no word of its source is where one of the other is
-pub record IsVisitor (source : List ℕ) (profile : Profile) (fiq : FiqQuestion) : Type 0 where
+pub record IsVisitor (source : File) (profile : Profile) (fiq : FiqQuestion) : Type 0 where
   pub apart : AreApart source fiq.own
   pub bounded : IsBounded (fiq_bytes source fiq.own) fiq.statement profile
   pub entry_is : bounded.accepted.stated.entry ≡ FIQ_VECTOR
 
 -- it is refused, where FIQ is asked for
-abbrev pub IsVisitorRefused : (source : List ℕ) → Profile → Option FiqQuestion → ReportFault → Type 0
+abbrev pub IsVisitorRefused : (source : File) → Profile → Option FiqQuestion → ReportFault → Type 0
 IsVisitorRefused source profile None fault = ⊥
 IsVisitorRefused source profile (Some fiq) fault = IsFiqsRefused source fiq.own fiq.statement profile fault
 

@@ -15,6 +15,7 @@ use Rattle.response_reports.specs.RespondText.{response_of, visited_time}
 use Rattle.response_reports.specs.declared.reaching.Reached.{Reached}
 use Rattle.response_reports.specs.declared.visits.Response.{Response}
 use Rattle.response_reports.specs.declared.visits.VisitedTime.{VisitedTime}
+use Rattle.sources.specs.File.{File}
 
 -- how the handler comes to the label
 pub record IsReachedAs (q : Question) (profile : Profile) (reached : Reached) : Type 0 where
@@ -24,7 +25,7 @@ pub record IsReachedAs (q : Question) (profile : Profile) (reached : Reached) : 
   pub own_is : is.own ≡ reached.own
 
 -- the bound of a stretch of code, in ticks
-pub record IsBoundOf (source statement : List ℕ) (profile : Profile) (bound : ℕ) : Type 0 where
+pub record IsBoundOf (source : File) (statement : List ℕ) (profile : Profile) (bound : ℕ) : Type 0 where
   pub bounded : IsBounded source statement profile
   pub bound_is : bounded.longest.bound ≡ bound
 
@@ -42,13 +43,13 @@ pub record IsResponseOf (q : Question) (profile : Profile) (response : Response)
   pub small : response.ticks < COST_LIMIT
 
 -- the bound of FIQ's handler, of a source and a statement
-pub record IsFiqBoundOf (source statement : List ℕ) (profile : Profile) (bound : ℕ) : Type 0 where
+pub record IsFiqBoundOf (source : File) (statement : List ℕ) (profile : Profile) (bound : ℕ) : Type 0 where
   pub bounded : IsBounded source statement profile
   pub entry_is : bounded.accepted.stated.entry ≡ FIQ_VECTOR
   pub bound_is : bounded.longest.bound ≡ bound
 
 -- the same, on the source that was read first or on its own
-pub record IsVisitorBound (source : List ℕ) (profile : Profile) (fiq : FiqQuestion) (bound : ℕ) : Type 0 where
+pub record IsVisitorBound (source : File) (profile : Profile) (fiq : FiqQuestion) (bound : ℕ) : Type 0 where
   pub visitor : IsVisitor source profile fiq
   pub bound_is : visitor.bounded.longest.bound ≡ bound
 
@@ -60,20 +61,20 @@ module _ (profile : Profile) (parts : ResponseParts) where
     pub time_is : visited_time profile (response_of profile parts) t.visits ≡ t.time
 
   -- the same, where FIQ is asked for
-  abbrev pub AreTimedFor : (source : List ℕ) → Option FiqQuestion → Option VisitedTime → Type 0
+  abbrev pub AreTimedFor : (source : File) → Option FiqQuestion → Option VisitedTime → Type 0
   AreTimedFor source None time = time ≡ None
   AreTimedFor source (Some fiq) time =
       (bound : ℕ) × IsVisitorBound source profile fiq bound
       × ((t : VisitedTime) × AreTimed fiq bound t × (time ≡ Some t))
 
   -- the sum with them is too large
-  abbrev pub AreTooManyFor : (source : List ℕ) → Option FiqQuestion → Type 0
+  abbrev pub AreTooManyFor : (source : File) → Option FiqQuestion → Type 0
   AreTooManyFor source None = ⊥
   AreTooManyFor source (Some fiq) =
       (bound : ℕ) × IsVisitorBound source profile fiq bound × AreTooMany profile parts fiq bound
 
   -- FIQ's handler is refused, or that
-  abbrev pub AreVisitsRefused : (source : List ℕ) → Option FiqQuestion → ReportFault → Type 0
+  abbrev pub AreVisitsRefused : (source : File) → Option FiqQuestion → ReportFault → Type 0
   AreVisitsRefused source fiq fault =
       IsVisitorRefused source profile fiq fault
       ⊎ ((fault ≡ report_fault.Walk walk_fault.BoundTooLarge) × AreTooManyFor source fiq)

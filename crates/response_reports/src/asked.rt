@@ -1,10 +1,11 @@
+use sources::SourceFile;
 use text_explained::Bursts;
 
 /// FIQ's handler, which visits the response of IRQ's, and how often.
 #[derive(Clone, Copy)]
 pub struct AskedFiq<'a> {
     /// The bytes of its source, where it is another one. Both are loaded at the same time.
-    pub source: Option<&'a [u8]>,
+    pub source: Option<SourceFile<'a>>,
     /// The text of the statement on it.
     pub statement: &'a [u8],
     /// FIQ is asked for at most once in so many ticks of the processor, from 1 on. For 0 no number of visits
@@ -19,7 +20,7 @@ pub struct AskedFiq<'a> {
 #[derive(Clone, Copy)]
 pub struct AskedResponse<'a> {
     /// The bytes of its source, a text or an image.
-    pub source: &'a [u8],
+    pub source: SourceFile<'a>,
     /// The text of the statement on it.
     pub statement: &'a [u8],
     /// Where its response ends: at a label or an address of the source, as `draft_report` takes it.

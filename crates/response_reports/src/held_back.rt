@@ -6,6 +6,7 @@ ghost use Rattle.handlers.specs.Report.{BeforeOutput, IsRefused};
 ghost use Rattle.sources.specs.Source.{Says};
 ghost use Rattle.response_reports.specs.RespondReport.{AddUpTo, OneIsRefused};
 ghost use Rattle.response_reports.specs.RespondWork.{IsBoundOf};
+ghost use Rattle.sources.specs.File.{File};
 
 use bus_ticks::Profile;
 use handlers::{Stop, longest_of, read_handler};
@@ -19,9 +20,9 @@ fn stretch_ticks<'a>(
     statement: &'a [u8],
     profile: &Profile,
 ) -> Result<u64, Stop<'a>>
-    ensures bound { (source : List ℕ) → Says source said.now
+    ensures bound { (source : File) → Says source said.now
         → IfOk result (IsBoundOf source statement.now profile.now) }
-    ensures fault { (source : List ℕ) → Says source said.now
+    ensures fault { (source : File) → Says source said.now
         → IfErr result (λ s. BeforeOutput (IsRefused source statement.now profile.now) (stop_fault s)) }
     ensures carries { IfErr result (Carries said.now statement.now profile.now) }
 {
@@ -41,13 +42,13 @@ pub(crate) fn stretches_ticks<'a>(
     statements: &'a [Vec<u8>],
     profile: &Profile,
 ) -> Result<u128, Stop<'a>>
-    ensures add_up { (source : List ℕ) → Says source said.now
+    ensures add_up { (source : File) → Says source said.now
         → IfOk result (AddUpTo source profile.now (map (λ v. v.items) statements.now)) }
     ensures small { IfOk result (λ total. total ≤ length statements.now * 2 ^ 64) }
-    ensures fault { (source : List ℕ) → Says source said.now
+    ensures fault { (source : File) → Says source said.now
         → IfErr result (λ s. BeforeOutput (OneIsRefused source profile.now
         (map (λ v. v.items) statements.now)) (stop_fault s)) }
-    ensures carries { (source : List ℕ) → Says source said.now
+    ensures carries { (source : File) → Says source said.now
         → IfErr result (CarriesOneOf source said.now (map (λ v. v.items) statements.now) profile.now) }
 {
     let mut total: u128 = 0;

@@ -9,6 +9,7 @@ ghost use Rattle.sources.specs.Source.{Says};
 ghost use Rattle.response_reports.specs.Question.{fiq_question, question_of};
 ghost use Rattle.response_reports.specs.RespondReport.{IsAimRefused, IsAskedOf, vector_at};
 ghost use Rattle.response_reports.specs.RespondWork.{IsReachedAs};
+ghost use Rattle.sources.specs.File.{file_of};
 
 use crate::asked::{AskedFiq, AskedResponse};
 use bus_ticks::FIQ_VECTOR;
@@ -57,13 +58,13 @@ fn reached_on(
     handler: &Handler<'_>,
     asked: AskedResponse<'_>,
 ) -> Result<Reached, ReportFault>
-    requires says { Says asked.source.now said.now }
+    requires says { Says (file_of asked.source) said.now }
     requires tree { HasItsTree handler.now }
-    ensures reached { (profile : Profile) → HasLoops asked.entry.source.now asked.entry.statement.now profile
-        handler.now.statement handler.now.graph
+    ensures reached { (profile : Profile) → HasLoops (file_of asked.entry.source) asked.entry.statement.now
+        profile handler.now.statement handler.now.graph
         → IfOk result (IsReachedAs (question_of asked.entry) profile) }
-    ensures fault { (profile : Profile) → HasLoops asked.entry.source.now asked.entry.statement.now profile
-        handler.now.statement handler.now.graph → IfErr result
+    ensures fault { (profile : Profile) → HasLoops (file_of asked.entry.source) asked.entry.statement.now
+        profile handler.now.statement handler.now.graph → IfErr result
         (λ e. (e ≡ ReportFault.Memory) ⊎ IsAimRefused (question_of asked.entry) profile e) }
     ensures alone { IfErr result ComesAlone }
 {
@@ -100,11 +101,11 @@ pub(crate) fn reached_by<'a>(
     asked: AskedResponse<'a>,
     profile: &bus_ticks::Profile,
 ) -> Result<Reached, Stop<'a>>
-    requires { Says asked.source.now said.now }
+    requires { Says (file_of asked.source) said.now }
     ensures reached { IfOk result (IsReachedAs (question_of asked.entry) profile.now) }
     ensures fault { IfErr result
-        (λ s. IsHandlerRefused asked.entry.source.now asked.entry.statement.now profile.now (stop_fault s)
-        ⊎ IsAimRefused (question_of asked.entry) profile.now (stop_fault s)) }
+        (λ s. IsHandlerRefused (file_of asked.entry.source) asked.entry.statement.now profile.now
+        (stop_fault s) ⊎ IsAimRefused (question_of asked.entry) profile.now (stop_fault s)) }
     ensures carries { IfErr result (Carries said.now asked.entry.statement.now profile.now) }
 {
     let handler = read_handler(alloc, said, asked.statement, profile)?;

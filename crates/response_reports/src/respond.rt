@@ -11,6 +11,7 @@ ghost use Rattle.sources.specs.Source.{IsSource, Says};
 ghost use Rattle.response_reports.specs.Question.{parts_asked, question_of, statements_of};
 ghost use Rattle.response_reports.specs.RespondReport.{IsRespondRefused, IsRespondReport, Responds};
 ghost use Rattle.response_reports.specs.RespondWork.{IsResponseOf};
+ghost use Rattle.sources.specs.File.{file_of};
 
 use crate::asked::AskedResponse;
 use crate::held_back::stretches_ticks;
@@ -47,11 +48,11 @@ fn response_of<'a>(
     asked: AskedResponse<'a>,
     profile: &Profile,
 ) -> Result<Response, Stop<'a>>
-    requires { Says asked.source.now said.now }
+    requires { Says (file_of asked.source) said.now }
     ensures response { IfOk result (IsResponseOf (question_of asked.entry) profile.now) }
     ensures fault { IfErr result
         (λ s. BeforeOutput (IsRespondRefused (question_of asked.entry) profile.now) (stop_fault s)) }
-    ensures carries { IfErr result (CarriesOneOf asked.entry.source.now said.now
+    ensures carries { IfErr result (CarriesOneOf (file_of asked.entry.source) said.now
         (statements_of (question_of asked.entry)) profile.now) }
 {
     let reached = reached_by(alloc, said, asked, profile)?;
@@ -80,12 +81,12 @@ fn source_response<'a>(
     asked: AskedResponse<'a>,
     profile: &Profile,
 ) -> Result<ResponseAnswer, VisitStop<'a>>
-    requires { Says asked.source.now said.now }
+    requires { Says (file_of asked.source) said.now }
     ensures report { IfOk result
         (λ a. IsRespondReport (question_of asked.entry) profile.now a.within a.text.items) }
     ensures fault { IfErr result (λ s. BeforeOutput (IsRespondRefused (question_of asked.entry) profile.now)
         (refusal_fault (refusal_on said.now s))) }
-    ensures carries { IsSource asked.entry.source.now said.now → IfErr result
+    ensures carries { IsSource (file_of asked.entry.source) said.now → IfErr result
         (λ s. CarriesReadOf (parts_asked (question_of asked.entry)) profile.now (refusal_on said.now s)) }
 {
     let response = response_of(alloc, said, asked, profile)?;

@@ -12,6 +12,7 @@ ghost use Rattle.response_reports.specs.Question.{fiq_part, fiq_question};
 ghost use Rattle.response_reports.specs.RespondReport.{AreTooMany, waited_of};
 ghost use Rattle.response_reports.specs.RespondText.{response_of};
 ghost use Rattle.response_reports.specs.RespondWork.{AreTimed, AreTimedFor, AreVisitsRefused, IsFiqBoundOf};
+ghost use Rattle.sources.specs.File.{File, file_of};
 
 use crate::asked::AskedFiq;
 use bus_ticks::Profile;
@@ -21,7 +22,7 @@ use handlers::{
 };
 use longest_walk::WalkFault;
 use responses::ResponseParts;
-use sources::Source;
+use sources::{Source, SourceFile};
 use std::alloc::Global;
 
 /// The refusal of a sum of 2^63 ticks or more.
@@ -61,9 +62,9 @@ fn fiq_bound<'a>(
     statement: &'a [u8],
     profile: &Profile,
 ) -> Result<u64, Stop<'a>>
-    ensures bound { (source : List ℕ) → Says source said.now
+    ensures bound { (source : File) → Says source said.now
         → IfOk result (IsFiqBoundOf source statement.now profile.now) }
-    ensures fault { (source : List ℕ) → Says source said.now
+    ensures fault { (source : File) → Says source said.now
         → IfErr result (λ s. BeforeOutput (IsFiqRefused source statement.now profile.now) (stop_fault s)) }
     ensures carries { IfErr result (Carries said.now statement.now profile.now) }
 {
@@ -76,17 +77,17 @@ fn fiq_bound<'a>(
 fn own_bound<'a>(
     alloc: Global,
     said: &Source<'_>,
-    own: &'a [u8],
+    own: SourceFile<'a>,
     statement: &'a [u8],
     profile: &Profile,
 ) -> Result<u64, Refusal<'a>>
-    ensures apart { (source : List ℕ) → Says source said.now
-        → OnOk result (SourcesShare source own.now None) }
-    ensures bound { IfOk result (IsFiqBoundOf own.now statement.now profile.now) }
-    ensures fault { (source : List ℕ) → Says source said.now
+    ensures apart { (source : File) → Says source said.now
+        → OnOk result (SourcesShare source (file_of own.entry) None) }
+    ensures bound { IfOk result (IsFiqBoundOf (file_of own.entry) statement.now profile.now) }
+    ensures fault { (source : File) → Says source said.now
         → IfErr (fault_only result)
-        (BeforeOutput (IsFiqsRefused source (Some own.now) statement.now profile.now)) }
-    ensures carries { IfErr result (CarriesReadOf ((own.now, statement.now) ∷ []) profile.now) }
+        (BeforeOutput (IsFiqsRefused source (Some (file_of own.entry)) statement.now profile.now)) }
+    ensures carries { IfErr result (CarriesReadOf ((file_of own.entry, statement.now) ∷ []) profile.now) }
 {
     let read = read_apart(alloc, said, own)?;
     let bound = fiq_bound(alloc, &read, statement, profile);
@@ -100,15 +101,15 @@ fn visitor_bound<'a>(
     asked: AskedFiq<'a>,
     profile: &Profile,
 ) -> Result<u64, VisitStop<'a>>
-    ensures apart { (source : List ℕ) → Says source said.now
+    ensures apart { (source : File) → Says source said.now
         → OnOk result (AreApart source (fiq_question asked.entry).own) }
-    ensures bound { (source : List ℕ) → Says source said.now
+    ensures bound { (source : File) → Says source said.now
         → IfOk result (IsFiqBoundOf (fiq_bytes source (fiq_question asked.entry).own)
         asked.entry.statement.now profile.now) }
-    ensures fault { (source : List ℕ) → Says source said.now
+    ensures fault { (source : File) → Says source said.now
         → IfErr result (λ s. BeforeOutput (IsFiqsRefused source (fiq_question asked.entry).own
         asked.entry.statement.now profile.now) (refusal_fault (refusal_on said.now s))) }
-    ensures carries { (source : List ℕ) → IsSource source said.now
+    ensures carries { (source : File) → IsSource source said.now
         → IfErr result (λ s. CarriesReadOf
         ((fiq_bytes source (fiq_question asked.entry).own, asked.entry.statement.now) ∷ []) profile.now
         (refusal_on said.now s)) }
@@ -184,12 +185,12 @@ pub(crate) fn response_visits<'a>(
     response: Response,
 ) -> Result<Option<VisitedTime>, VisitStop<'a>>
     requires { response.ticks ≡ response_of profile.now response.parts }
-    ensures timed { (source : List ℕ) → Says source said.now
+    ensures timed { (source : File) → Says source said.now
         → IfOk result (AreTimedFor profile.now response.parts source (option_map fiq_question fiq.entry)) }
-    ensures fault { (source : List ℕ) → Says source said.now
+    ensures fault { (source : File) → Says source said.now
         → IfErr result (λ s. BeforeOutput (AreVisitsRefused profile.now response.parts source
         (option_map fiq_question fiq.entry)) (refusal_fault (refusal_on said.now s))) }
-    ensures carries { (source : List ℕ) → IsSource source said.now
+    ensures carries { (source : File) → IsSource source said.now
         → IfErr result (λ s. (s ≡ VisitStop.OnRead (Stop.Alone TOO_LONG))
         ⊎ CarriesReadOf (fiq_part source (option_map fiq_question fiq.entry)) profile.now
         (refusal_on said.now s)) }

@@ -14,6 +14,7 @@ use Rattle.statement.specs.Statement.{IsStatement}
 use Rattle.statement.specs.declared.faults.StatementFault.{StatementFault}
 use Rattle.statement.specs.declared.faults.StatementFault.TheVariants as statement_fault
 use Rattle.text_draft.specs.Closed.{closed}
+use Rattle.sources.specs.File.{File}
 
 -- a fault of the text, as a report has it
 pub begun_fault : (text : List ℕ) (names : Names) (f : StatementFault)
@@ -21,7 +22,7 @@ pub begun_fault : (text : List ℕ) (names : Names) (f : StatementFault)
 begun_fault text names statement_fault.Memory h = tt
 begun_fault text names f h = (λ e. cc e, h (λ e. cc e))
 
-module _ (source begun : List ℕ) (read : Source) (said : Says source read) where
+module _ (source : File) (begun : List ℕ) (read : Source) (said : Says source read) where
   pub begun_refused : (fault : ReportFault) → IsBegunFault (closed begun) (address_of read.labels) fault
       → BeforeOutput (IsDraftOnRefused source begun) fault
   begun_refused report_fault.Memory h = (λ e. cc e, tt)

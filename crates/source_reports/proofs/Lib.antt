@@ -1,1 +1,2 @@
 mod BegunLaws
+mod ProvedLaws

@@ -7,9 +7,10 @@ use Rattle.handlers.specs.Source.{IsSourceFault}
 use Rattle.handlers.specs.declared.fault.ReportFault.{ReportFault}
 use Rattle.handlers.specs.declared.fault.ReportFault.TheVariants as report_fault
 use Rattle.sources.specs.Source.{source_of}
+use Rattle.sources.specs.File.{File}
 
 -- the source has these words
-pub record HasWords (source : List ℕ) (words : Words) : Type 0 where
+pub record HasWords (source : File) (words : Words) : Type 0 where
   pub names : Names
   pub source_is : source_of source ≡ Ok (words, names)
 
@@ -20,22 +21,22 @@ size_text words =
     ++
     (decimal (length words) ++ (codes " segments " ++ (decimal (length (segments_of words)) ++ codes "\n")))
 
-pub record IsAsmReport (source text : List ℕ) : Type 0 where
+pub record IsAsmReport (source : File) (text : List ℕ) : Type 0 where
   pub words : Words
   pub has : HasWords source words
   pub text_is : text ≡ size_text words
 
 -- the bytes of the image's file, and the report
-pub record IsWritten (source bytes text : List ℕ) : Type 0 where
+pub record IsWritten (source : File) (bytes text : List ℕ) : Type 0 where
   pub words : Words
   pub has : HasWords source words
   pub bytes_are : bytes ≡ image_bytes (segments_of words)
   pub text_is : text ≡ size_text words
 
-abbrev pub IsSource : List ℕ → Type 0
+abbrev pub IsSource : File → Type 0
 IsSource source = (words : Words) × HasWords source words
 
 -- when each refusal is answered; an output fails whatever the source
-abbrev pub IsSourceRefused : List ℕ → ReportFault → Type 0
+abbrev pub IsSourceRefused : File → ReportFault → Type 0
 IsSourceRefused source report_fault.Device = Unit {0}
 IsSourceRefused source fault = IsSourceFault source fault

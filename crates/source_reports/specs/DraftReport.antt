@@ -9,14 +9,18 @@ use Rattle.statement.specs.declared.faults.StatementFault.TheVariants as stateme
 use Rattle.text_draft.specs.Closed.{closed}
 use Rattle.text_draft.specs.Draft.{IsDraft}
 use Rattle.text_draft.specs.DraftOn.{IsDraftOn}
+use Rattle.text_draft.specs.declared.drafts.DraftParts.{DraftParts}
+use Rattle.text_draft.specs.declared.grounds.Claims.{Claims}
 use Rattle.image.specs.Image.{Words}
 use Rattle.image.specs.Labels.{Names, address_of}
 use Rattle.handlers.specs.Report.{IsStatementRefused}
 use Rattle.handlers.specs.Source.{IsSourceFault}
 use Rattle.handlers.specs.declared.fault.ReportFault.{ReportFault}
 use Rattle.handlers.specs.declared.fault.ReportFault.TheVariants as report_fault
+use Rattle.source_reports.specs.Proved.{IsProved}
 use Rattle.sources.specs.Source.{IsSource, source_of}
 use Rattle.sources.specs.declared.read.Source.{Source}
+use Rattle.sources.specs.File.{File}
 
 -- a number, where it is the address of a word
 abbrev pub if_word : ℕ → Option ℕ
@@ -34,7 +38,7 @@ or_address text None = address_in text
 abbrev pub entry_of : Names → List ℕ → Option ℕ
 entry_of names text = or_address text (names text)
 
-module _ (source entry : List ℕ) where
+module _ (source : File) (entry : List ℕ) where
   -- the source has words and labels, and the entry is an address by them
   pub record IsDraftable : Type 0 where
     pub words : Words
@@ -43,13 +47,17 @@ module _ (source entry : List ℕ) where
     pub at : ℕ
     pub entry_is : entry_of names entry ≡ Some at
 
-  -- a draft of the handler that begins there, with labels and comments of the source's lines
+  -- a draft of the handler that begins there, with labels and comments of the source's lines. What it writes as
+  -- proved is
   pub record IsDraftReport (text : List ℕ) : Type 0 where
     pub read : Source
     pub is_read : IsSource source read
     pub at : ℕ
     pub entry_is : entry_of (address_of read.labels) entry ≡ Some at
-    pub is_draft : IsDraft read at text
+    pub claims : Claims
+    pub parts : DraftParts
+    pub is_draft : IsDraft read at claims parts text
+    pub proved : IsProved read text parts
 
   -- the source has words and labels, and the entry is no address by them
   pub record HasNoEntry : Type 0 where
@@ -73,7 +81,7 @@ IsBegunFault text names (report_fault.Statement fault) =
     (fault ≢ statement_fault.Memory) × IsStatement text names (Err fault)
 IsBegunFault text names fault = ⊥
 
-module _ (source begun : List ℕ) where
+module _ (source : File) (begun : List ℕ) where
   -- the source has words and labels, and the begun text, where something stands for each "?", is a statement
   -- by them
   pub record IsDraftableOn : Type 0 where
@@ -83,13 +91,17 @@ module _ (source begun : List ℕ) where
     pub stated : Stated
     pub statement_is : IsStatement (closed begun) names (Ok stated)
 
-  -- a draft on that statement, with labels and comments of the source's lines
+  -- a draft on that statement, with labels and comments of the source's lines. What it adds as proved is, where
+  -- what was stated before holds
   pub record IsDraftOnReport (text : List ℕ) : Type 0 where
     pub read : Source
     pub is_read : IsSource source read
     pub stated : Stated
     pub statement_is : IsStatement (closed begun) (address_of read.labels) (Ok stated)
-    pub is_draft : IsDraftOn read begun stated text
+    pub claims : Claims
+    pub parts : DraftParts
+    pub is_draft : IsDraftOn read begun stated claims parts text
+    pub proved : IsProved read text parts
 
   -- when each refusal is answered; an output fails whatever the source and the statement
   abbrev pub IsDraftOnRefused : ReportFault → Type 0

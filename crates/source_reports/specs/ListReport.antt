@@ -4,9 +4,10 @@ use Rattle.sources.specs.Source.{IsSource}
 use Rattle.sources.specs.declared.read.Source.{Source}
 use Rattle.text_listing.specs.Listing.{AreListed}
 use Rattle.source_reports.specs.Assembly.{size_text}
+use Rattle.sources.specs.File.{File}
 
 -- the rows of the source, and then its size
-pub record IsListReport (source text : List ℕ) : Type 0 where
+pub record IsListReport (source : File) (text : List ℕ) : Type 0 where
   pub read : Source
   pub is : IsSource source read
   pub rows : List ℕ

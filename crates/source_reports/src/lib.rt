@@ -7,6 +7,7 @@ mod begun;
 mod draft;
 mod list;
 mod plain;
+mod proof;
 
 pub use assembly::{Written, asm_report, image_written};
 pub use begun::draft_on_report;

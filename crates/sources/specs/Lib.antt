@@ -1,3 +1,5 @@
+pub mod Dialect
+pub mod File
 pub mod Lines
 pub mod Rows
 pub mod Source

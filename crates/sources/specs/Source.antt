@@ -1,4 +1,5 @@
--- What a source says: an image where it begins as one, which names no addresses, else a text.
+-- What a source says: an image where it begins as one, which names no addresses, else a text, by what it is in
+-- our grammar.
 use Rattle.std.specs.Prelude.{◌≡◌, ℕ, true, false, List, Result, Ok, Err, if◌then◌else◌}
 use Rattle.image.specs.Image.{Words}
 use Rattle.image.specs.ImageBytes.{image_read, is_image}
@@ -7,11 +8,17 @@ use Rattle.image.specs.declared.reading.ReadFault.{ReadFault}
 use Rattle.image.specs.declared.reading.ReadFault.TheVariants as read_fault
 use Rattle.assembler.specs.Placed.{ArePlaced}
 use Rattle.assembler.specs.Sweeps.{assembled}
+use Rattle.assembler.specs.declared.placed_line.PlacedLine.{PlacedLine}
 use Rattle.assembler.specs.declared.fault.AsmFault.{AsmFault}
 use Rattle.assembler.specs.declared.fault.AsmFault.TheVariants as asm_fault
 use Rattle.assembler.specs.declared.fault.LineFault.{LineFault}
+use Rattle.objasm.specs.declared.faults.LineFault.{LineFault as ObjasmFault}
+use Rattle.objasm.specs.declared.source.DialectFault.{DialectFault}
+use Rattle.objasm.specs.declared.source.DialectFault.TheVariants as dialect_fault
+use Rattle.sources.specs.Dialect.{plain_text}
+use Rattle.sources.specs.File.{File}
 use Rattle.sources.specs.declared.fault.SourceFault.{SourceFault}
-use Rattle.sources.specs.declared.fault.SourceFault.TheVariants.{Memory, Text, Image}
+use Rattle.sources.specs.declared.fault.SourceFault.TheVariants.{Memory, Text, Image, Dialect}
 use Rattle.sources.specs.declared.read.Source.{Source}
 use Rattle.sources.specs.declared.read.SourceText.{SourceText}
 use Rattle.sources.specs.declared.read.SourceText.TheVariants as text
@@ -26,6 +33,10 @@ of_text fault = Text fault
 abbrev pub of_image : ReadFault → SourceFault
 of_image read_fault.Memory = Memory
 of_image fault = Image fault
+
+abbrev pub of_dialect : DialectFault → SourceFault
+of_dialect dialect_fault.Memory = Memory
+of_dialect fault = Dialect fault
 
 -- ## What a source says
 
@@ -42,27 +53,36 @@ abbrev pub said_by_text : Result Said (LineFault × ℕ) → Result Said SourceF
 said_by_text (Ok said) = Ok said
 said_by_text (Err fault) = Err (Text (asm_fault.Line fault.0 fault.1))
 
+-- what the assembly says of a text in our grammar
+abbrev pub said_by_plain : Result (List ℕ) (ObjasmFault × ℕ) → Result Said SourceFault
+said_by_plain (Ok plain) = said_by_text (assembled plain)
+said_by_plain (Err fault) = Err (Dialect (dialect_fault.Line fault.0 fault.1))
+
 -- what a source says, or its fault
-unfoldable pub source_of : List ℕ → Result Said SourceFault
-source_of source =
-    if is_image source then said_by_image (image_read source) else said_by_text (assembled source)
+unfoldable pub source_of : File → Result Said SourceFault
+source_of file =
+    if is_image file.bytes then said_by_image (image_read file.bytes) else said_by_plain (plain_text file)
 
--- an image has no text, and of a text these are the bytes and the places of the lines
-abbrev pub HasText : List ℕ → SourceText → Type 0
-HasText bytes (text.Lines own placed) =
-    (is_image bytes ≡ false) × (own.now ≡ bytes) × ArePlaced bytes placed.items
-HasText bytes text.Image = is_image bytes ≡ true
+-- the places of a text's lines, which are those of its lines in our grammar
+abbrev pub AreItsPlaces : File → List PlacedLine → Type 0
+AreItsPlaces file placed = (plain : List ℕ) × (plain_text file ≡ Ok plain) × ArePlaced plain placed
 
--- the bytes say that the source has these words and labels
-abbrev pub Says : List ℕ → Source → Type 0
-Says bytes source = source_of bytes ≡ Ok (source.image, address_of source.labels)
+-- an image has no text, and of a text these are the file's bytes and the places of the lines
+abbrev pub HasText : File → SourceText → Type 0
+HasText file (text.Lines own placed) =
+    (is_image file.bytes ≡ false) × (own.now ≡ file.bytes) × AreItsPlaces file placed.items
+HasText file text.Image = is_image file.bytes ≡ true
 
--- the source has the words, the labels and the text of the bytes
-pub record IsSource (bytes : List ℕ) (source : Source) : Type 0 where
-  pub said : Says bytes source
-  pub text : HasText bytes source.text
+-- the file says that the source has these words and labels
+abbrev pub Says : File → Source → Type 0
+Says file source = source_of file ≡ Ok (source.image, address_of source.labels)
+
+-- the source has the words, the labels and the text of the file
+pub record IsSource (file : File) (source : Source) : Type 0 where
+  pub said : Says file source
+  pub text : HasText file source.text
 
 -- when each refusal of a source is answered; an allocation may fail whatever it says
-abbrev pub IsFaultOf : List ℕ → SourceFault → Type 0
-IsFaultOf bytes Memory = Unit {0}
-IsFaultOf bytes fault = source_of bytes ≡ Err fault
+abbrev pub IsFaultOf : File → SourceFault → Type 0
+IsFaultOf file Memory = Unit {0}
+IsFaultOf file fault = source_of file ≡ Err fault

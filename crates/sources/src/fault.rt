@@ -1,9 +1,10 @@
 ghost use Rattle.std.specs.Prelude.{◌≡◌};
-ghost use Rattle.sources.specs.Source.{of_image, of_text};
+ghost use Rattle.sources.specs.Source.{of_dialect, of_image, of_text};
 ghost use Rattle.sources.specs.declared.fault.SourceFault.TheVariants.{Memory};
 
 use assembler::AsmFault;
 use image::ReadFault;
+use objasm::DialectFault;
 use std::alloc::AllocError;
 use thiserror::Error;
 
@@ -19,6 +20,9 @@ pub enum SourceFault {
     /// The bytes begin as an image and are none.
     #[error("{0}")]
     Image(ReadFault),
+    /// The text is in ObjAsm's dialect and cannot be translated.
+    #[error("{0}")]
+    Dialect(DialectFault),
 }
 
 impl From<AllocError> for SourceFault {
@@ -47,6 +51,17 @@ impl From<ReadFault> for SourceFault {
         match lower {
             ReadFault::Memory => SourceFault::Memory,
             _ => SourceFault::Image(lower),
+        }
+    }
+}
+
+impl From<DialectFault> for SourceFault {
+    ghost from_gives = { λ lower fault. fault ≡ of_dialect lower };
+
+    fn from(lower: DialectFault) -> SourceFault {
+        match lower {
+            DialectFault::Memory => SourceFault::Memory,
+            _ => SourceFault::Dialect(lower),
         }
     }
 }

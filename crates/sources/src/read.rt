@@ -1,9 +1,13 @@
-ghost use Rattle.std.specs.Prelude.{◌≡◌, true, false, IfErr, IfOk};
+ghost use Rattle.std.specs.Prelude.{◌≡◌, true, false, Ok, IfErr, IfOk};
 ghost use Rattle.image.specs.ImageBytes.{is_image};
+ghost use Rattle.sources.specs.Dialect.{plain_text};
 ghost use Rattle.sources.specs.Lines.{AreLines};
 ghost use Rattle.sources.specs.Source.{IsFaultOf, IsSource};
+ghost use Rattle.sources.specs.File.{file_of};
 
+use crate::dialect::PlainText;
 use crate::fault::SourceFault;
+use crate::file::SourceFile;
 use assembler::{PlacedLine, Program, assemble, placed_lines};
 use image::{Image, Labels, is_image, read_image};
 use std::alloc::{AllocError, Global};
@@ -13,7 +17,7 @@ use text_rows::{SourceLine, source_lines};
 /// The text of a source.
 #[derive(Drop)]
 pub enum SourceText<'a> {
-    /// Its bytes, and where each of its lines is placed, in their order.
+    /// Its bytes, as its author wrote them, and where each of its lines is placed, in their order.
     Lines(&'a [u8], Vec<PlacedLine>),
     /// There is none: the source is an image.
     Image,
@@ -29,28 +33,43 @@ pub struct Source<'a> {
     pub text: SourceText<'a>,
 }
 
-// A text, whose bytes do not begin as an image's.
-fn read_text<'a>(alloc: Global, bytes: &'a [u8]) -> Result<Source<'a>, SourceFault>
-    requires { is_image bytes.now ≡ false }
-    ensures is { IfOk result (IsSource bytes.now) }
-    ensures fault { IfErr result (IsFaultOf bytes.now) }
+// A text, whose bytes do not begin as an image's, by what it is in our grammar.
+fn read_plain<'a>(
+    alloc: Global,
+    plain: &[u8],
+    file: SourceFile<'a>,
+) -> Result<Source<'a>, SourceFault>
+    requires text { is_image file.bytes.now ≡ false }
+    requires plain { plain_text (file_of file) ≡ Ok plain.now }
+    ensures is { IfOk result (IsSource (file_of file.entry)) }
+    ensures fault { IfErr result (IsFaultOf (file_of file.entry)) }
 {
-    let placed = placed_lines(alloc, bytes)?;
-    let assembly = assemble(alloc, bytes)?;
+    let placed = placed_lines(alloc, plain)?;
+    let assembly = assemble(alloc, plain)?;
     Ok(Source {
         image: assembly.image,
         labels: assembly.labels,
-        text: SourceText::Lines(bytes, placed),
+        text: SourceText::Lines(file.bytes, placed),
     })
 }
 
-// An image, whose bytes begin as one's.
-fn read_words<'a>(alloc: Global, bytes: &'a [u8]) -> Result<Source<'a>, SourceFault>
-    requires { is_image bytes.now ≡ true }
-    ensures is { IfOk result (IsSource bytes.now) }
-    ensures fault { IfErr result (IsFaultOf bytes.now) }
+// A text, whose bytes do not begin as an image's.
+fn read_text<'a>(alloc: Global, file: SourceFile<'a>) -> Result<Source<'a>, SourceFault>
+    requires { is_image file.bytes.now ≡ false }
+    ensures is { IfOk result (IsSource (file_of file.entry)) }
+    ensures fault { IfErr result (IsFaultOf (file_of file.entry)) }
 {
-    let image = read_image(alloc, bytes)?;
+    let plain = PlainText::read(alloc, file)?;
+    read_plain(alloc, plain.bytes(), file)
+}
+
+// An image, whose bytes begin as one's.
+fn read_words<'a>(alloc: Global, file: SourceFile<'a>) -> Result<Source<'a>, SourceFault>
+    requires { is_image file.bytes.now ≡ true }
+    ensures is { IfOk result (IsSource (file_of file.entry)) }
+    ensures fault { IfErr result (IsFaultOf (file_of file.entry)) }
+{
+    let image = read_image(alloc, file.bytes)?;
     Ok(Source {
         image,
         labels: Labels::new(alloc),
@@ -59,19 +78,21 @@ fn read_words<'a>(alloc: Global, bytes: &'a [u8]) -> Result<Source<'a>, SourceFa
 }
 
 impl<'a> Source<'a> {
-    /// Reads a source: an image where it begins as one, else a text.
+    /// Reads a source: an image where it begins as one, else a text, in ObjAsm's dialect where that was said of
+    /// the file, or where its first line is `; dialect: objasm`, with nothing behind it but blanks.
     ///
     /// # Errors
     ///
-    /// `Text`, with its line, of a text; `Image` of an image. `Memory`: an allocation failed.
-    pub fn read(alloc: Global, bytes: &'a [u8]) -> Result<Source<'a>, SourceFault>
-        ensures is { IfOk result (IsSource bytes.now) }
-        ensures fault { IfErr result (IsFaultOf bytes.now) }
+    /// `Text`, with its line, of a text; `Dialect`, with its line, of one in the dialect that cannot be
+    /// translated; `Image` of an image. `Memory`: an allocation failed.
+    pub fn read(alloc: Global, file: SourceFile<'a>) -> Result<Source<'a>, SourceFault>
+        ensures is { IfOk result (IsSource (file_of file.entry)) }
+        ensures fault { IfErr result (IsFaultOf (file_of file.entry)) }
     {
-        if is_image(bytes) {
-            return read_words(alloc, bytes);
+        if is_image(file.bytes) {
+            return read_words(alloc, file);
         }
-        read_text(alloc, bytes)
+        read_text(alloc, file)
     }
 
     /// The lines of its text by the addresses of their words. The label of a line's first word is the one in

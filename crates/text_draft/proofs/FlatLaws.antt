@@ -1,5 +1,5 @@
 -- Texts of one part after another.
-use Rattle.std.proofs.Common.{◌≡◌, ◌+◌, ◌-◌, ◌*◌, ℕ, suc, List, [], ◌∷◌, ◌++◌, length, take, arith, length-append, codes, ap, replicate, subst, sym, Bool, false, ◌==◌, if◌then◌else◌, decimal, Some, None, ◌∙◌, append_assoc}
+use Rattle.std.proofs.Common.{◌≡◌, ◌+◌, ◌-◌, ◌*◌, ℕ, suc, List, [], ◌∷◌, ◌++◌, length, take, arith, length-append, codes, ap, replicate, subst, sym, Bool, false, ◌==◌, if◌then◌else◌, decimal, Some, ◌∙◌, append_assoc}
 use Rattle.std.specs.BTreeMap.{BTreeMap}
 use Rattle.std.specs.Prelude.{Option}
 use Rattle.text_rows.specs.declared.line_labels.SourceLine.{SourceLine}
@@ -11,7 +11,7 @@ use Rattle.text_draft.specs.declared.accesses.FoundAccess.{FoundAccess}
 use Rattle.text_draft.specs.declared.ends.End.{End}
 use Rattle.text_draft.specs.declared.rules.FoundRule.{FoundRule}
 use Rattle.text_draft.specs.declared.found_loop.FoundLoop.{FoundLoop}
-use Rattle.text_draft.specs.Targets.{any_open, leaves_open}
+use Rattle.text_draft.specs.Targets.{any_open}
 use Rattle.text_draft.specs.declared.pc_writers.FoundTarget.{FoundTarget}
 use Rattle.text_draft.specs.declared.pc_writers.Way.{Way}
 use Rattle.std.specs.List.{flat_map}
@@ -75,20 +75,20 @@ bound_whole indent left some turns front back old a b new parts is h1 h2 h3 =
     ∙ ap (λ t. old ++ bound_text indent left t) (sym is)
 
 -- a loop, part by part
-pub loop_whole : (lines : BTreeMap ℕ SourceLine) (left : Bool) (l : FoundLoop) (old p q r s t u new : List ℕ) → p ≡ old ++ codes "\n"
+pub loop_whole : (lines : BTreeMap ℕ SourceLine) (l : FoundLoop) (old p q r s t u new : List ℕ) → p ≡ old ++ codes "\n"
     → q ≡ p ++ replicate (2 * l.depth) 32 → r ≡ q ++ codes "[[loop]]\n"
     → s ≡ r ++ place_text lines (2 * l.depth) (codes "header") l.header
     → t ≡ s ++ place_text lines (2 * l.depth) (codes "first") l.first
-    → u ≡ t ++ place_text lines (2 * l.depth) (codes "last") l.last → new ≡ u ++ bound_text (2 * l.depth) left l.turns
-    → new ≡ old ++ loop_text lines left l
-loop_whole lines left l old p q r s t u new h1 h2 h3 h4 h5 h6 h7 =
+    → u ≡ t ++ place_text lines (2 * l.depth) (codes "last") l.last → new ≡ u ++ bound_text (2 * l.depth) l.proved l.turns
+    → new ≡ old ++ loop_text lines l
+loop_whole lines l old p q r s t u new h1 h2 h3 h4 h5 h6 h7 =
     let a = codes "\n" in
     let b = replicate (2 * l.depth) 32 in
     let c = codes "[[loop]]\n" in
     let d = place_text lines (2 * l.depth) (codes "header") l.header in
     let e = place_text lines (2 * l.depth) (codes "first") l.first in
     let f = place_text lines (2 * l.depth) (codes "last") l.last in
-    let g = bound_text (2 * l.depth) left l.turns in
+    let g = bound_text (2 * l.depth) l.proved l.turns in
     three old a b (c ++ (d ++ (e ++ (f ++ g)))) h1 h2
     (three q c d (e ++ (f ++ g)) h3 h4 (three s e f g h5 h6 h7))
 
@@ -97,7 +97,7 @@ pub draft_whole : (lines : BTreeMap ℕ SourceLine) (entry : ℕ) (full : Bool) 
     (apart : List ApartStretch) (rules : List FoundRule) (entries : List FoundAccess) (loops : List FoundLoop) (candidates : List ℕ) (targets : List FoundTarget)
     (old p o q r v s t u new : List ℕ) → p ≡ old ++ head_text lines entry → o ≡ p ++ full_text full
     → q ≡ o ++ flat_map (end_text lines) ends → r ≡ q ++ flat_map (cycle_text lines) cycles
-    → v ≡ r ++ apart_text lines apart → s ≡ v ++ accesses_text lines rules entries → t ≡ s ++ flat_map (loop_text lines (leaves_open full None targets)) loops
+    → v ≡ r ++ apart_text lines apart → s ≡ v ++ accesses_text lines rules entries → t ≡ s ++ flat_map (loop_text lines) loops
     → u ≡ t ++ candidates_text lines (codes "below") (any_open targets) candidates → new ≡ u ++ flat_map (target_text lines) targets
     → new ≡ old ++ draft_text lines entry full ends cycles apart rules entries loops candidates targets
 draft_whole lines entry full ends cycles apart rules entries loops candidates targets old p o q r v s t u new h1 h2 h3 h4 h45 h5 h6 h7 h8 =
@@ -107,7 +107,7 @@ draft_whole lines entry full ends cycles apart rules entries loops candidates ta
     let c = flat_map (end_text lines) ends in
     let d = flat_map (cycle_text lines) cycles in
     let e = accesses_text lines rules entries in
-    let f = flat_map (loop_text lines (leaves_open full None targets)) loops in
+    let f = flat_map (loop_text lines) loops in
     let g = candidates_text lines (codes "below") (any_open targets) candidates in
     let h = flat_map (target_text lines) targets in
     joined old p new a (b ++ (c ++ (d ++ (i ++ (e ++ (f ++ (g ++ h))))))) h1

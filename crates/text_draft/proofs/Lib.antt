@@ -2,9 +2,11 @@ mod AccessLaws
 mod CandidateLaws
 mod Explored
 mod FlatLaws
+mod GroundLaws
+mod Mapped
 mod Picked
 mod RuleLaws
 mod StatedLaws
-mod TallyLaws
+pub mod TallyLaws
 mod TargetLaws
 mod WayLaws

@@ -19,6 +19,8 @@ use Rattle.text_draft.specs.Begun.{has_rule}
 use Rattle.text_draft.specs.Rules.{is_same_class, AreRules, IsMostFrequent, IsNewRule, IsRule, MayRule, Shows, count, of_both}
 use Rattle.text_draft.specs.Tallies.{ShowsNth, tally_of, with_rule}
 use Rattle.text_draft.specs.declared.accesses.FoundAccess.{FoundAccess}
+use Rattle.text_draft.specs.declared.grounds.Ground.{Ground}
+use Rattle.text_draft.specs.declared.grounds.Ground.TheVariants.{Pattern}
 use Rattle.text_draft.specs.declared.rules.FoundRule.{FoundRule}
 use Rattle.text_draft.specs.declared.tallies.Tally.{Tally}
 use Rattle.word_shapes.specs.Words.{HasInstr}
@@ -155,8 +157,11 @@ module _ (words : Words) (open_left : Bool) (accesses : List FoundAccess) where
   first_of [] le = absurd (omega (arith, le))
   first_of (e ∷ es) le = (e, refl)
 
+  abbrev grounded : Register → Class → ℕ → ℕ → Ground → FoundRule
+  grounded register class n at basis = record { register = register; class = class; count = n; first = at; basis = basis }
+
   abbrev made : Register → Class → ℕ → ℕ → FoundRule
-  made register class n at = record { register = register; class = class; count = n; first = at }
+  made register class n at = grounded register class n at Pattern
 
   module _ (register : Register) (class : Class) (is_most : IsMostFrequent accesses register class) (t : Tally) (tally : t ≡ tally_of (of_both accesses register class)) where
     counts : t.count ≡ count accesses register class
@@ -175,7 +180,7 @@ module _ (words : Words) (open_left : Bool) (accesses : List FoundAccess) where
         let here : count accesses r.register r.class ≡ t.count = ap (λ g. count accesses g r.class) at ∙ ap (count accesses register) (sym k) ∙ sym counts in
         omega (arith, few, some, here)
 
-    pub rule_made : MayRule words open_left register class → 2 ≤ t.count → IsRule words open_left accesses (record { register = register; class = class; count = t.count; first = t.first })
+    pub rule_made : MayRule words open_left register class → 2 ≤ t.count → IsRule words open_left accesses (record { register = register; class = class; count = t.count; first = t.first; basis = Pattern })
     rule_made may enough =
         let many : 2 ≤ count accesses register class = omega (arith, enough, counts) in
         let one = first_of (of_both accesses register class) many in
@@ -185,10 +190,11 @@ module _ (words : Words) (open_left : Bool) (accesses : List FoundAccess) where
           first = one.0;
           first_is = one.1;
           at_first = ap (λ (u : Tally). u.first) tally ∙ tally_first (of_both accesses register class) one.0 one.1;
+          ground_is = refl;
         }
 
     pub rule_only : (r : FoundRule) → IsRule words open_left accesses r → r.register ≡ register
-        → Some (let x : FoundRule = record { register = register; class = class; count = t.count; first = t.first } in x) ≡ Some r
+        → Some (let x : FoundRule = record { register = register; class = class; count = t.count; first = t.first; basis = Pattern } in x) ≡ Some r
     rule_only r is at =
         let k = its_class r is at in
         let same : of_both accesses r.register r.class ≡ of_both accesses register class = ap (λ g. of_both accesses g r.class) at ∙ ap (of_both accesses register) (sym k) in
@@ -196,7 +202,8 @@ module _ (words : Words) (open_left : Bool) (accesses : List FoundAccess) where
         let f : t.first ≡ r.first =
         ap (λ (u : Tally). u.first) tally ∙ ap (λ es. (tally_of es).first) (sym same) ∙ tally_first (of_both accesses r.register r.class) is.first is.first_is ∙ sym is.at_first in
         ap Some (ap (λ g. made g class t.count t.first) (sym at) ∙ ap (λ x. made r.register x t.count t.first) k
-        ∙ ap (λ x. made r.register r.class x t.first) n ∙ ap (made r.register r.class r.count) f)
+        ∙ ap (λ x. made r.register r.class x t.first) n ∙ ap (made r.register r.class r.count) f
+        ∙ ap (grounded r.register r.class r.count r.first) (sym is.ground_is))
 
 -- ## All registers
 

@@ -1,12 +1,13 @@
 -- A begun statement as one that can be read: something stands for a "?", and each line stays.
-use Rattle.std.specs.Prelude.{ℕ, ◌==◌, ◌&&◌, ◌||◌, Bool, true, false, nat_eq, if◌then◌else◌, List, [], ◌∷◌, codes}
+use Rattle.std.specs.Prelude.{ℕ, ◌==◌, ◌&&◌, ◌||◌, Bool, true, false, nat_eq, if◌then◌else◌, List, [], ◌∷◌}
+use Rattle.std.specs.Prelude.{◌++◌, codes}
 use Rattle.std.specs.List.{starts_with}
 use Rattle.text_draft.specs.declared.closing.Key.{Key}
 use Rattle.text_draft.specs.declared.closing.Key.TheVariants.{To, Bound, Other}
 use Rattle.text_draft.specs.declared.closing.Spot.{Spot}
 use Rattle.text_draft.specs.declared.closing.Spot.TheVariants.{Elsewhere, T, B, Bo, Bou, Boun, Behind, Equals}
 use Rattle.text_draft.specs.declared.closing.Spot.TheVariants.{InString, Comment}
-use Rattle.text_draft.specs.declared.closing.Spot.TheVariants.{WholeMark, WholeQuote, Mark, Quote}
+use Rattle.text_draft.specs.declared.closing.Spot.TheVariants.{WholeMark, WholeQuote, BoundMark, Mark, Quote}
 
 -- ## Bytes
 
@@ -51,6 +52,7 @@ spot_after (Equals key) byte = if is_blank byte then Equals key else spot_behind
 spot_after InString byte = if (byte == 34) || (byte == 10) then Elsewhere else InString
 spot_after Comment byte = if byte == 10 then Elsewhere else Comment
 spot_after WholeMark byte = WholeQuote
+spot_after BoundMark byte = Quote
 spot_after Mark byte = Quote
 spot_after WholeQuote byte = Elsewhere
 spot_after Quote byte = Elsewhere
@@ -72,29 +74,33 @@ closes spot byte rest = may_close spot && begins_mark byte rest
 -- behind the first byte of such a "?"
 abbrev pub spot_in_mark : Spot → Spot
 spot_in_mark (Equals To) = WholeMark
+spot_in_mark (Equals Bound) = BoundMark
 spot_in_mark _ = Mark
 
 -- ## What stands for a byte
 
--- for one that begins no such "?": 48 is 0, 93 ], and 32 a blank
+-- for one that begins no such "?": 48 is 0, 93 ], and 32 a blank. Of a bound the first has the number
 abbrev pub stands_for : Spot → ℕ → ℕ
 stands_for WholeMark byte = 48
 stands_for WholeQuote byte = 93
+stands_for BoundMark byte = 32
 stands_for Mark byte = 48
 stands_for Quote byte = 32
 stands_for _ byte = byte
 
--- for the first of such a "?": 91 is [
-abbrev pub stands_for_first : Spot → ℕ
-stands_for_first (Equals To) = 91
-stands_for_first _ = 32
+-- for the first of such a "?": of a bound the greatest that may be stated
+abbrev pub stands_for_first : Spot → List ℕ
+stands_for_first (Equals To) = codes "["
+stands_for_first (Equals Bound) = codes "1048576"
+stands_for_first _ = codes " "
 
--- a "?" that is all of the destinations, behind `to =`, is the list [0]; one behind `bound =`, or among the
--- elements of a list, the number 0 between blanks. Behind any other `=`, and in a comment, it stays
+-- a "?" that is all of the destinations, behind `to =`, is the list [0]; one behind `bound =` the greatest
+-- bound, so that it says least; one among the elements of a list the number 0 between blanks. Behind any other
+-- `=`, and in a comment, it stays
 abbrev pub closed_from : Spot → List ℕ → List ℕ
 closed_from spot [] = []
 closed_from spot (byte ∷ rest) =
-    if closes spot byte rest then stands_for_first spot ∷ closed_from (spot_in_mark spot) rest
+    if closes spot byte rest then stands_for_first spot ++ closed_from (spot_in_mark spot) rest
     else stands_for spot byte ∷ closed_from (spot_after spot byte) rest
 
 abbrev pub closed : List ℕ → List ℕ

@@ -11,9 +11,9 @@ use Rattle.text_rows.specs.declared.line_labels.SourceLine.{SourceLine}
 use Rattle.text_draft.specs.Closed.{has_mark}
 use Rattle.text_draft.specs.DraftText.{apart_text, candidates_text, cycle_text, end_text, entries_text}
 use Rattle.text_draft.specs.DraftText.{entry_text, full_text, loop_text, place_text, register_text, rule_text}
-use Rattle.text_draft.specs.DraftText.{rules_text, stretch_text, target_text}
+use Rattle.text_draft.specs.DraftText.{ground_text, rules_text, stretch_text, target_text, written}
 use Rattle.text_draft.specs.Forms.{filled, forms_of, hashed, key_name}
-use Rattle.text_draft.specs.Targets.{any_left, leaves_open}
+use Rattle.text_draft.specs.Targets.{any_left}
 use Rattle.text_draft.specs.declared.accesses.FoundAccess.{FoundAccess}
 use Rattle.text_draft.specs.declared.ends.End.{End}
 use Rattle.text_draft.specs.declared.forms.Forms.{Forms}
@@ -22,6 +22,7 @@ use Rattle.text_draft.specs.declared.forms.ListForm.TheVariants.{Rows, Tables, A
 use Rattle.text_draft.specs.declared.forms.ListKey.{ListKey}
 use Rattle.text_draft.specs.declared.forms.ListKey.TheVariants.{Apart, Base, Access, Loop, Target}
 use Rattle.text_draft.specs.declared.found_loop.FoundLoop.{FoundLoop}
+use Rattle.text_draft.specs.declared.grounds.Ground.{Ground}
 use Rattle.text_draft.specs.declared.pc_writers.FoundTarget.{FoundTarget}
 use Rattle.text_draft.specs.declared.rules.FoundRule.{FoundRule}
 
@@ -75,12 +76,14 @@ as_tables key Absent tables = tables
 as_tables key Rows tables = aside key tables
 as_tables key Other tables = aside key tables
 
-abbrev pub class_line : Class → List ℕ
-class_line class = codes "class = \"" ++ (class_name class ++ codes "\"\n")
+abbrev pub class_line : Class → Ground → List ℕ
+class_line class basis =
+    codes "class = \""
+    ++ (class_name (written class basis) ++ (codes "\"" ++ (ground_text class basis ++ codes "\n")))
 
 abbrev pub rule_table : FoundRule → List ℕ
 rule_table r =
-    codes "\n[[base]]\nregister = \"" ++ (register_text r.register ++ (codes "\"\n" ++ class_line r.class))
+    codes "\n[[base]]\nregister = \"" ++ (register_text r.register ++ (codes "\"\n" ++ class_line r.class r.basis))
 
 -- a note on an address follows, or that more is reached
 abbrev pub has_notes : Lacking → Bool
@@ -97,7 +100,7 @@ note_text begun l =
 module _ (lines : BTreeMap ℕ SourceLine) where
   abbrev pub entry_table : FoundAccess → List ℕ
   entry_table e =
-      codes "\n[[access]]\n" ++ (place_text lines 0 (codes "at") e.at ++ class_line e.class)
+      codes "\n[[access]]\n" ++ (place_text lines 0 (codes "at") e.at ++ class_line e.class e.basis)
 
   -- ## Rows
 
@@ -136,8 +139,8 @@ module _ (lines : BTreeMap ℕ SourceLine) where
       ++ if_other forms.access (flat_map entry_table l.entries) (aside Access (entry_rows l.entries)))
 
   -- loops and targets
-  abbrev pub loops_text : Stated → Lacking → List ℕ
-  loops_text st l = flat_map (loop_text lines (leaves_open l.full (Some st) l.targets)) l.loops
+  abbrev pub loops_text : Lacking → List ℕ
+  loops_text l = flat_map (loop_text lines) l.loops
 
   -- addresses to which a "?" may lead, of a stated target or an added one
   abbrev pub named_text : Stated → Lacking → List ℕ
@@ -146,7 +149,7 @@ module _ (lines : BTreeMap ℕ SourceLine) where
 
   abbrev pub tables_text : Forms → Stated → Lacking → List ℕ
   tables_text forms st l =
-      as_tables Loop forms.loops (loops_text st l)
+      as_tables Loop forms.loops (loops_text l)
       ++ (named_text st l
       ++ as_tables Target forms.targets (flat_map (target_text lines) l.targets))
 

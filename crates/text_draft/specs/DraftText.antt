@@ -8,6 +8,7 @@ use Rattle.std.specs.List.{flat_map}
 use Rattle.std.specs.Ordering.{nat_cmp}
 use Rattle.asm_text.specs.Hex.{hex8}
 use Rattle.bus_ticks.specs.declared.profile.Class.{Class}
+use Rattle.bus_ticks.specs.declared.profile.Class.TheVariants.{Any}
 use Rattle.bus_ticks.specs.Prices.{ahead_of}
 use Rattle.statement.specs.Statement.{class_name}
 use Rattle.statement.specs.declared.apart.ApartStretch.{ApartStretch}
@@ -20,15 +21,30 @@ use Rattle.text_draft.specs.declared.accesses.FoundAccess.{FoundAccess}
 use Rattle.text_draft.specs.declared.ends.End.{End}
 use Rattle.text_draft.specs.declared.ends.End.TheVariants.{NoWord, Unallocated, Trap}
 use Rattle.text_draft.specs.declared.found_loop.FoundLoop.{FoundLoop}
-use Rattle.text_draft.specs.Targets.{any_open, leaves_open}
+use Rattle.text_draft.specs.declared.grounds.Ground.{Ground}
+use Rattle.text_draft.specs.declared.grounds.Ground.TheVariants.{Word, Proof, Pattern}
+use Rattle.text_draft.specs.Targets.{any_open}
 use Rattle.text_draft.specs.declared.pc_writers.FoundTarget.{FoundTarget}
 use Rattle.text_draft.specs.declared.rules.FoundRule.{FoundRule}
 use Rattle.text_draft.specs.declared.pc_writers.Way.{Way}
 use Rattle.text_draft.specs.declared.pc_writers.Way.TheVariants.{Call, Jump, Return}
 
+-- the class that is written: one that rests on a pattern alone is left to the author
+abbrev pub written : Class → Ground → Class
+written class Word = class
+written class Proof = class
+written class Pattern = Any
+
+-- what a class rests on, as a comment
+abbrev pub ground_text : Class → Ground → List ℕ
+ground_text class Word = []
+ground_text class Proof = codes "  # proved"
+ground_text class Pattern = codes "  # looks like \"" ++ (class_name class ++ codes "\"")
+
 -- the end of an access
-abbrev pub class_text : Class → List ℕ
-class_text class = codes ", class = \"" ++ (class_name class ++ codes "\"},")
+abbrev pub class_text : Class → Ground → List ℕ
+class_text class basis =
+    codes ", class = \"" ++ (class_name (written class basis) ++ (codes "\"}," ++ ground_text class basis))
 
 abbrev pub register_text : Register → List ℕ
 register_text register = codes "R" ++ decimal (register_number register)
@@ -44,16 +60,14 @@ end_words NoWord = codes ": reached, and no word is there."
 end_words Unallocated = codes ": reached, and the word is no instruction."
 end_words Trap = codes ": reached, and the word is a SWI or undefined."
 
--- a bound, that many columns in: a question mark, or the number that was counted. While it is open where a
--- word leads, the number is a comment alone
-abbrev pub bound_text : ℕ → (open_left : Bool) → Option ℕ → List ℕ
-bound_text indent open_left None = replicate indent 32 ++ codes "bound = \"?\"\n"
+-- a bound, that many columns in: a question mark, or the number that is proved. One that the words suggest
+-- alone is a comment
+abbrev pub bound_text : ℕ → (proved : Bool) → Option ℕ → List ℕ
+bound_text indent proved None = replicate indent 32 ++ codes "bound = \"?\"\n"
 bound_text indent true (Some turns) =
-    replicate indent 32
-    ++ (codes "bound = \"?\"  # " ++ (decimal turns ++ codes ", if no other way leads into the loop\n"))
+    replicate indent 32 ++ (codes "bound = " ++ (decimal turns ++ codes "  # proved\n"))
 bound_text indent false (Some turns) =
-    replicate indent 32
-    ++ (codes "bound = " ++ (decimal turns ++ codes "  # counted, if no [[target]] leads into the loop\n"))
+    replicate indent 32 ++ (codes "bound = \"?\"  # looks like " ++ (decimal turns ++ codes "\n"))
 
 -- what a draft says that looked at as many addresses as it may
 abbrev pub full_text : Bool → List ℕ
@@ -106,7 +120,7 @@ module _ (lines : BTreeMap ℕ SourceLine) where
   -- a rule for a base register, and as a comment what it stands for
   abbrev pub rule_text : FoundRule → List ℕ
   rule_text r =
-      codes "  {register = \"" ++ (register_text r.register ++ (codes "\"" ++ (class_text r.class
+      codes "  {register = \"" ++ (register_text r.register ++ (codes "\"" ++ (class_text r.class r.basis
       ++ (codes "  # " ++ (decimal r.count ++ (codes " loads and stores, the first "
       ++ (spot_text (get nat_cmp lines r.first) r.first ++ codes "\n")))))))
 
@@ -120,7 +134,7 @@ module _ (lines : BTreeMap ℕ SourceLine) where
   rules_text rules = if length rules == 0 then [] else rule_list_text rules
 
   abbrev pub entry_text : FoundAccess → List ℕ
-  entry_text e = element_text (codes "  {at = ") e.at (class_text e.class)
+  entry_text e = element_text (codes "  {at = ") e.at (class_text e.class e.basis)
 
   abbrev pub entry_list_text : List FoundAccess → List ℕ
   entry_list_text entries = codes "access = [\n" ++ (flat_map entry_text entries ++ codes "]\n")
@@ -141,12 +155,12 @@ module _ (lines : BTreeMap ℕ SourceLine) where
       if length rules + length entries == 0 then [] else access_lists_text rules entries
 
   -- a loop, further in by two columns for each loop around it
-  abbrev pub loop_text : (open_left : Bool) → FoundLoop → List ℕ
-  loop_text open_left l =
+  abbrev pub loop_text : FoundLoop → List ℕ
+  loop_text l =
       codes "\n" ++ (replicate (2 * l.depth) 32 ++ (codes "[[loop]]\n"
       ++ (place_text (2 * l.depth) (codes "header") l.header
       ++ (place_text (2 * l.depth) (codes "first") l.first
-      ++ (place_text (2 * l.depth) (codes "last") l.last ++ bound_text (2 * l.depth) open_left l.turns)))))
+      ++ (place_text (2 * l.depth) (codes "last") l.last ++ bound_text (2 * l.depth) l.proved l.turns)))))
 
   abbrev pub destination_text : ℕ → List ℕ
   destination_text at = element_text (codes "  ") at (codes ",")
@@ -204,6 +218,6 @@ module _ (lines : BTreeMap ℕ SourceLine) where
   draft_text entry full ends cycles apart rules entries loops candidates targets =
       head_text entry ++ (full_text full ++ (flat_map end_text ends ++ (flat_map cycle_text cycles
       ++ (apart_text apart ++ (accesses_text rules entries
-      ++ (flat_map (loop_text (leaves_open full None targets)) loops
+      ++ (flat_map loop_text loops
       ++ (candidates_text (codes "below") (any_open targets) candidates
       ++ flat_map target_text targets)))))))

@@ -21,7 +21,7 @@ lacking_of found =
       apart = found.loops.apart.items;
       rules = found.rules.items;
       entries = found.entries.items;
-      loops = found.loops.loops.items;
+      loops = found.counted.items;
       candidates = found.candidates.items;
       targets = found.targets.items;
     }
@@ -35,6 +35,6 @@ pub record AreRows (lines : BTreeMap ℕ SourceLine) (l : Lacking) (rows : RowTe
 -- and these its tables, and the candidates between them
 pub record AreTables (lines : BTreeMap ℕ SourceLine) (st : Stated) (l : Lacking) (tables : TableTexts)
     : Type 0 where
-  pub loops : tables.loops.items ≡ loops_text lines st l
+  pub loops : tables.loops.items ≡ loops_text lines l
   pub candidates : tables.candidates.items ≡ named_text lines st l
   pub targets : tables.targets.items ≡ flat_map (target_text lines) l.targets

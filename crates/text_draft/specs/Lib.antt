@@ -9,6 +9,7 @@ pub mod DraftText
 pub mod Ends
 pub mod Exploring
 pub mod Forms
+pub mod Grounds
 pub mod Found
 pub mod Lacking
 pub mod Picks

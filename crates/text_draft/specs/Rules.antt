@@ -2,7 +2,7 @@
 -- class.
 use Rattle.std.specs.Prelude.{◌≡◌, ◌⊎◌, ◌↔◌, ◌&&◌, ◌==◌, ◌<◌, ◌≤◌, ℕ, Bool, true, false, List, length, filter}
 use Rattle.std.specs.Prelude.{AllPairs, Contains, Option, Some}
-use Rattle.std.specs.List.{list_any, slice_get}
+use Rattle.std.specs.List.{slice_get}
 use Rattle.arm2_decode.specs.Names.{is_pc, is_same, register_number}
 use Rattle.arm2_decode.specs.declared.instr.Instr.{Instr}
 use Rattle.arm2_decode.specs.declared.names.Register.{Register}
@@ -13,8 +13,8 @@ use Rattle.image.specs.Image.{Words}
 use Rattle.statement.specs.Stated.{Stated}
 use Rattle.text_draft.specs.Accesses.{IsByPc, base_used}
 use Rattle.text_draft.specs.Begun.{has_rule}
-use Rattle.text_draft.specs.Picks.{Picks}
 use Rattle.text_draft.specs.declared.accesses.FoundAccess.{FoundAccess}
+use Rattle.text_draft.specs.declared.grounds.Ground.TheVariants.{Pattern}
 use Rattle.text_draft.specs.declared.rules.FoundRule.{FoundRule}
 use Rattle.word_shapes.specs.Words.{HasInstr}
 
@@ -72,13 +72,15 @@ module _ (words : Words) (open_left : Bool) (accesses : List FoundAccess) where
       IsMostFrequent accesses register class
       × (MayRule words open_left register class × (2 ≤ count accesses register class))
 
-  -- it says how many accesses it stands for, and where the first of them is
+  -- it says how many accesses have them, and where the first of them is; what its class rests on is looked at
+  -- later
   pub record IsRule (r : FoundRule) : Type 0 where
     pub has : HasRule r.register r.class
     pub count_is : r.count ≡ count accesses r.register r.class
     pub first : FoundAccess
     pub first_is : slice_get (of_both accesses r.register r.class) 0 ≡ Some first
     pub at_first : r.first ≡ first.at
+    pub ground_is : r.basis ≡ Pattern
 
   -- and none is stated for its register
   abbrev pub IsNewRule : Option Stated → FoundRule → Type 0
@@ -88,13 +90,3 @@ module _ (words : Words) (open_left : Bool) (accesses : List FoundAccess) where
   pub record AreRules (begun : Option Stated) (rules : List FoundRule) : Type 0 where
     pub ascend : AllPairs (λ r q. register_number r.register < register_number q.register) rules
     pub each : (r : FoundRule) → Contains rules r ↔ IsNewRule begun r
-
--- ## What is left
-
--- a rule stands for the access
-abbrev pub is_covered : List FoundRule → FoundAccess → Bool
-is_covered rules e = list_any (λ r. has_both r.register r.class e) rules
-
--- exactly the accesses for which no rule stands, in their order
-abbrev pub AreEntries : List FoundAccess → List FoundRule → List FoundAccess → Type 0
-AreEntries accesses rules = Picks (λ e. is_covered rules e ≡ false) accesses

@@ -11,6 +11,7 @@ ghost use Rattle.word_shapes.specs.Words.{MayDo};
 
 use crate::begun::Begun;
 use crate::constants::{Constants, Literals};
+use crate::grounds::Ground;
 use crate::reach::Reached;
 use crate::ways::before;
 use arm2_decode::{Block, Instr, Operation, Register, SingleImmediate};
@@ -29,6 +30,8 @@ pub struct FoundAccess {
     pub base: Register,
     /// The class of what it transfers.
     pub class: Class,
+    /// What that rests on: a pattern until it is looked at.
+    pub basis: Ground,
 }
 
 // The narrowest class of both addresses, where they are of one.
@@ -173,7 +176,12 @@ fn keep_access(
         return Ok(());
     };
     let class = class_at(image, known, at, by_word);
-    found.push(FoundAccess { at, base, class })?;
+    found.push(FoundAccess {
+        at,
+        base,
+        class,
+        basis: Ground::Pattern,
+    })?;
     Ok(())
 }
 

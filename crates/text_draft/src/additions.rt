@@ -1,31 +1,32 @@
 //! Drafts on statements that are begun.
 
-ghost use Rattle.std.specs.Prelude.{◌≡◌, ◌++◌, IfOk, OnOk};
+ghost use Rattle.std.specs.Prelude.{◌≡◌, ◌++◌, IfOk, OnOk, Some};
 ghost use Rattle.std.specs.List.{flat_map};
-ghost use Rattle.sources.specs.Lines.{AreLines};
+ghost use Rattle.text_draft.specs.Draft.{HasFound, HasGrades};
 ghost use Rattle.text_draft.specs.DraftOn.{IsDraftOn};
 ghost use Rattle.text_draft.specs.DraftOnText.{class_line, draft_on_text, entry_table, front_text, if_absent};
 ghost use Rattle.text_draft.specs.DraftOnText.{has_notes, if_other, is_nothing, loops_text, named_text};
 ghost use Rattle.text_draft.specs.DraftOnText.{note_text, notes_text, other_text};
 ghost use Rattle.text_draft.specs.DraftOnText.{as_tables, aside, aside_head, rule_table, some_aside};
 ghost use Rattle.text_draft.specs.DraftText.{apart_text, entries_text, rules_text};
+ghost use Rattle.text_draft.specs.declared.grounds.Claims.{Claims};
 ghost use Rattle.text_draft.specs.Lacking.{AreRows, AreTables, lacking_of};
 ghost use Rattle.text_draft.specs.declared.forms.ListKey.TheVariants.{Access, Apart, Base, Loop, Target};
 
 use crate::accesses::FoundAccess;
 use crate::begun::Begun;
 use crate::closing::has_mark;
-use crate::drafts::{DraftParts, find};
+use crate::drafts::DraftParts;
 use crate::forms::{Forms, ListForm, ListKey, RowTexts, put_hashed};
-use crate::pc_writers::{any_left, leaves_open};
+use crate::grounds::Ground;
+use crate::pc_writers::any_left;
 use crate::rules::FoundRule;
-use crate::statement_text::{Sheet, put_full, put_register};
+use crate::statement_text::{Sheet, put_full, put_ground, put_register, written};
 use bus_ticks::Class;
 use sources::Source;
 use statement::{ApartStretch, Statement, class_name};
 use std::alloc::{AllocError, Global};
-use std::collections::BTreeMap;
-use text_rows::{SourceLine, put};
+use text_rows::put;
 
 /// Tables for the list of loops and that of targets, and what stands between them.
 #[derive(Drop)]
@@ -48,20 +49,6 @@ fn rows_of(alloc: Global, sheet: &Sheet, found: &DraftParts) -> Result<RowTexts,
     sheet.put_each_rule(&mut rows.rules, &found.rules)?;
     sheet.put_each_entry(&mut rows.entries, &found.entries)?;
     Ok(rows)
-}
-
-fn put_found_loops(
-    out: &mut Vec<u8>,
-    sheet: &Sheet,
-    statement: &Statement,
-    found: &DraftParts,
-) -> Result<(), AllocError>
-    ensures { OnOk result
-        (out.new.items
-        ≡ out.old.items ++ loops_text sheet.now.lines.now statement.now (lacking_of found.now)) }
-{
-    let open_left = leaves_open(found.full, &Begun::of(statement), &found.targets);
-    sheet.put_loops(out, open_left, &found.loops.loops)
 }
 
 // Adds the addresses to which a `"?"` may lead, of a stated target or an added one.
@@ -93,7 +80,7 @@ fn tables_of(
         candidates: Vec::new(alloc),
         targets: Vec::new(alloc),
     };
-    put_found_loops(&mut tables.loops, sheet, statement, found)?;
+    sheet.put_loops(&mut tables.loops, &found.counted)?;
     put_named(&mut tables.candidates, sheet, statement, found)?;
     sheet.put_targets(&mut tables.targets, &found.targets)?;
     Ok(tables)
@@ -172,7 +159,7 @@ fn is_nothing(found: &DraftParts) -> bool
     found.loops.apart.is_empty()
         && found.rules.is_empty()
         && found.entries.is_empty()
-        && found.loops.loops.is_empty()
+        && found.counted.is_empty()
         && found.targets.is_empty()
 }
 
@@ -216,12 +203,14 @@ fn put_notes(
 }
 
 // Adds the class of a table.
-fn put_class_line(out: &mut Vec<u8>, class: Class) -> Result<(), AllocError>
-    ensures { OnOk result (out.new.items ≡ out.old.items ++ class_line class) }
+fn put_class_line(out: &mut Vec<u8>, class: Class, basis: Ground) -> Result<(), AllocError>
+    ensures { OnOk result (out.new.items ≡ out.old.items ++ class_line class basis) }
 {
     put(out, b"class = \"")?;
-    put(out, class_name(class).as_bytes())?;
-    put(out, b"\"\n")
+    put(out, class_name(written(class, basis)).as_bytes())?;
+    put(out, b"\"")?;
+    put_ground(out, class, basis)?;
+    put(out, b"\n")
 }
 
 fn put_rule_table(out: &mut Vec<u8>, rule: &FoundRule) -> Result<(), AllocError>
@@ -230,7 +219,7 @@ fn put_rule_table(out: &mut Vec<u8>, rule: &FoundRule) -> Result<(), AllocError>
     put(out, b"\n[[base]]\nregister = \"")?;
     put_register(out, rule.register)?;
     put(out, b"\"\n")?;
-    put_class_line(out, rule.class)
+    put_class_line(out, rule.class, rule.basis)
 }
 
 fn put_rule_tables(out: &mut Vec<u8>, rules: &[FoundRule]) -> Result<(), AllocError>
@@ -248,7 +237,7 @@ fn put_entry_table(out: &mut Vec<u8>, sheet: &Sheet, entry: &FoundAccess) -> Res
 {
     put(out, b"\n[[access]]\n")?;
     sheet.put_place(out, 0, b"at", entry.at)?;
-    put_class_line(out, entry.class)
+    put_class_line(out, entry.class, entry.basis)
 }
 
 fn put_entry_tables(
@@ -414,32 +403,14 @@ fn text_on(
     Ok(out)
 }
 
-// The draft, where the lines are found by their addresses.
-fn draft_on_lines(
-    alloc: Global,
-    source: &Source<'_>,
-    lines: &BTreeMap<u32, SourceLine>,
-    begun: &[u8],
-    statement: &Statement,
-) -> Result<Vec<u8>, AllocError>
-    requires { AreLines source.now lines.now }
-    ensures { IfOk result (λ text. IsDraftOn source.now begun.now statement.now text.items) }
-{
-    let known = Begun::of(statement);
-    let found = find(alloc, &source.image, &known, statement.entry())?;
-    text_on(alloc, &Sheet { lines }, begun, statement, &found)
-}
-
-/// A statement that is begun, with what the words show that it lacks: the text as it is, and rows in its lists
-/// of words apart, rules and classes, loops, and the targets of words that write R15. `statement` is what the
-/// text says once it is [`closed`](crate::closed): a destination 0 stands for what is left open.
+/// A statement that is begun, with what was [found](crate::find_lacking) that it lacks and is
+/// [claimed](DraftParts::claim) to be proved: the text as it is, and rows in its lists of words apart, rules
+/// and classes, loops, and the targets of words that write R15. `statement` is what the text says once it is
+/// [`closed`](crate::closed): a destination 0 stands for what is left open.
 ///
-/// What is followed, found and written is as in [`draft`](crate::draft), but a word with a target leads where
-/// that says, and while that is open, also where the words show. The clause says that nothing which is stated
-/// is asked for again: no target of a word that has one, no class of a load or store that has one or a rule,
-/// no rule for a register that has one, and no loop with the header of a stated one. Where rows go is part of
-/// the text: behind the line that begins their list, in front of all where the statement has no such list,
-/// else as tables or comments behind it. That the text can be read as a statement is tested only.
+/// What is written is as in [`draft`](crate::draft). Where rows go is part of the text: behind the line that
+/// begins their list, in front of all where the statement has no such list, else as tables or comments behind
+/// it. That the text can be read as a statement is tested only.
 ///
 /// # Errors
 ///
@@ -449,9 +420,12 @@ pub fn draft_on(
     source: &Source<'_>,
     begun: &[u8],
     statement: &Statement,
+    found: &DraftParts,
 ) -> Result<Vec<u8>, AllocError>
-    ensures { IfOk result (λ text. IsDraftOn source.now begun.now statement.now text.items) }
+    requires { HasFound source.now.image (Some statement.now) statement.now.entry found.now }
+    ensures { IfOk result (λ text. (claims : Claims) → HasGrades source.now.image claims found.now
+        → IsDraftOn source.now begun.now statement.now claims found.now text.items) }
 {
     let lines = source.lines(alloc)?;
-    draft_on_lines(alloc, source, &lines, begun, statement)
+    text_on(alloc, &Sheet { lines: &lines }, begun, statement, found)
 }

@@ -6,6 +6,7 @@ ghost use Rattle.text_draft.specs.Closed.{has_mark_from, is_blank, may_close, sp
 ghost use Rattle.text_draft.specs.Closed.{spot_behind, spot_if, spot_in_mark, stands_for, stands_for_first};
 
 use std::alloc::{AllocError, Global};
+use text_rows::put;
 
 /// The key of what is stated.
 #[derive(Clone, Copy)]
@@ -34,7 +35,9 @@ pub enum Spot {
     /// Behind the first byte of a `"?"` that is all of the destinations, and behind its second.
     WholeMark,
     WholeQuote,
-    /// The same of any other `"?"` for which something stands.
+    /// Behind the first byte of a `"?"` that is a bound.
+    BoundMark,
+    /// Behind the first byte of any other `"?"` for which something stands, and behind the second of both.
     Mark,
     Quote,
 }
@@ -131,7 +134,7 @@ fn spot_after(spot: Spot, byte: u8) -> Spot
         Spot::InString => spot_in_string(byte),
         Spot::Comment => spot_in_comment(byte),
         Spot::WholeMark => Spot::WholeQuote,
-        Spot::Mark => Spot::Quote,
+        Spot::Mark | Spot::BoundMark => Spot::Quote,
         Spot::WholeQuote | Spot::Quote => Spot::Elsewhere,
         Spot::Elsewhere => spot_behind(byte),
     }
@@ -161,6 +164,7 @@ fn spot_in_mark(spot: Spot) -> Spot
 {
     match spot {
         Spot::Equals(Key::To) => Spot::WholeMark,
+        Spot::Equals(Key::Bound) => Spot::BoundMark,
         _ => Spot::Mark,
     }
 }
@@ -172,18 +176,19 @@ fn stands_for(spot: Spot, byte: u8) -> u8
     match spot {
         Spot::WholeMark | Spot::Mark => b'0',
         Spot::WholeQuote => b']',
-        Spot::Quote => b' ',
+        Spot::BoundMark | Spot::Quote => b' ',
         _ => byte,
     }
 }
 
 // What stands for the first byte of such a `"?"`.
-fn stands_for_first(spot: Spot) -> u8
-    ensures { result ≡ stands_for_first spot }
+fn stands_for_first(spot: Spot) -> &'static [u8]
+    ensures { result.now ≡ stands_for_first spot }
 {
     match spot {
-        Spot::Equals(Key::To) => b'[',
-        _ => b' ',
+        Spot::Equals(Key::To) => b"[",
+        Spot::Equals(Key::Bound) => b"1048576",
+        _ => b" ",
     }
 }
 
@@ -194,17 +199,17 @@ fn push_closed(new: &mut Vec<u8>, spot: Spot, byte: u8, rest: &[u8]) -> Result<S
         ≡ new.old.items ++ closed_from spot (byte ∷ rest.now)) }
 {
     if closes(spot, byte, rest) {
-        new.push(stands_for_first(spot))?;
+        put(new, stands_for_first(spot))?;
         return Ok(spot_in_mark(spot));
     }
     new.push(stands_for(spot, byte))?;
     Ok(spot_after(spot, byte))
 }
 
-/// A begun statement as one that can be read, as long, in bytes, and with the same lines. In place of a `"?"`
-/// behind `to =` there is a list with 0 alone, and in place of one behind `bound =`, or among the elements of
-/// a list, 0. A destination 0 stands for what is left open. Behind any other `=`, and in a comment, a `"?"`
-/// stays.
+/// A begun statement as one that can be read, with the same lines. In place of a `"?"` behind `to =` there is a
+/// list with 0 alone, in place of one behind `bound =` the greatest bound that a loop may have, 1,048,576, and
+/// in place of one among the elements of a list 0. A destination 0 stands for what is left open. Behind any
+/// other `=`, and in a comment, a `"?"` stays.
 ///
 /// # Errors
 ///

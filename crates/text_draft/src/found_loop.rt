@@ -10,6 +10,8 @@ pub struct FoundLoop {
     pub depth: u32,
     /// How often it turns back, where the words show it.
     pub turns: Option<u32>,
+    /// Whether a proof is claimed for that.
+    pub proved: bool,
     ghost from_first: { first ≤ header },
     ghost to_last: { header ≤ last },
 }

@@ -13,6 +13,7 @@ mod drafts;
 mod ends;
 mod forms;
 mod found_loop;
+mod grounds;
 mod loop_members;
 mod loops;
 mod paths;
@@ -24,6 +25,9 @@ mod tallies;
 mod ways;
 mod word_actions;
 
+pub use accesses::FoundAccess;
 pub use additions::draft_on;
 pub use closing::closed;
-pub use drafts::draft;
+pub use drafts::{DraftParts, draft, find_lacking, find_parts};
+pub use found_loop::FoundLoop;
+pub use grounds::{Claims, Ground};

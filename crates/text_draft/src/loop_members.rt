@@ -82,6 +82,7 @@ pub(crate) fn natural_loop(
         last: members.last.max(header),
         depth: 0,
         turns: None,
+        proved: false,
     }))
 }
 

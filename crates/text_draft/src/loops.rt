@@ -15,7 +15,7 @@ use std::collections::BTreeSet;
 /// The loops, outer ones before those inside them, the words that are apart from them, and the addresses to
 /// which cycles turn back that no loop bounds.
 #[derive(Drop)]
-pub(crate) struct Loops {
+pub struct Loops {
     pub loops: Vec<FoundLoop>,
     pub apart: Vec<ApartStretch>,
     pub cycles: Vec<u32>,

@@ -1,15 +1,15 @@
 //! The rules for base registers, which stand for loads and stores that have one base and one class.
 
-ghost use Rattle.std.specs.Prelude.{◌≡◌, ◌↔◌, ◌+◌, ℕ, List, false, IfOk, IfSome, IsTrue, OnOk, Some, length};
-ghost use Rattle.text_draft.specs.Picks.{Keeps};
-ghost use Rattle.text_draft.specs.Rules.{AreEntries, AreRules, IsMostFrequent, IsNewRule, IsRule};
-ghost use Rattle.text_draft.specs.Rules.{MayRule, Shows, class_number, has_both, is_covered, is_same_class};
+ghost use Rattle.std.specs.Prelude.{◌≡◌, ◌↔◌, ◌+◌, ℕ, List, IfOk, IfSome, IsTrue, OnOk, Some, length};
+ghost use Rattle.text_draft.specs.Rules.{AreRules, IsMostFrequent, IsNewRule, IsRule};
+ghost use Rattle.text_draft.specs.Rules.{MayRule, Shows, class_number, has_both, is_same_class};
 ghost use Rattle.text_draft.specs.Tallies.{AreTallies, Leads, ShowsNth, with_rule};
 ghost use Rattle.text_draft.specs.declared.accesses.FoundAccess.{FoundAccess};
 ghost use Rattle.text_draft.specs.declared.rules.FoundRule.{FoundRule};
 
 use crate::accesses::{FoundAccess, base_used, shown_by_pc};
 use crate::begun::Begun;
+use crate::grounds::Ground;
 use crate::tallies::{Tally, tallies, tally_at};
 use arm2_decode::Register;
 use bus_ticks::Class;
@@ -26,9 +26,12 @@ pub struct FoundRule {
     pub count: usize,
     /// The address of the first of them.
     pub first: u32,
+    /// What its class rests on: a pattern until that is looked at.
+    pub basis: Ground,
 }
 
-fn is_same_class(class: Class, other: Class) -> bool
+/// Whether both are the same class.
+pub(crate) fn is_same_class(class: Class, other: Class) -> bool
     ensures { result ≡ is_same_class class other }
 {
     class == other
@@ -135,6 +138,7 @@ fn rule_of(image: &Image, table: &[Tally], open_left: bool, register: Register) 
         class,
         count: tally.count,
         first: tally.first,
+        basis: Ground::Pattern,
     })
 }
 
@@ -189,48 +193,9 @@ pub(crate) fn find_rules(
     Ok(rules)
 }
 
-fn has_both(register: Register, class: Class, access: &FoundAccess) -> bool
+/// Whether a load or store has that base and that class.
+pub(crate) fn has_both(register: Register, class: Class, access: &FoundAccess) -> bool
     ensures { result ≡ has_both register class access.now }
 {
     register == access.base && is_same_class(class, access.class)
-}
-
-// Whether a rule stands for the load or store.
-fn is_covered(rules: &[FoundRule], access: &FoundAccess) -> bool
-    ensures { result ≡ is_covered rules.now access.now }
-{
-    rules
-        .iter()
-        .any(|rule| has_both(rule.register, rule.class, access))
-}
-
-// Takes a load or store for which no rule stands.
-fn keep_entry(
-    entries: &mut Vec<FoundAccess>,
-    rules: &[FoundRule],
-    access: &FoundAccess,
-) -> Result<(), AllocError>
-    ensures { OnOk result
-        (Keeps (λ e. is_covered rules.now e ≡ false) access.now entries.old.items entries.new.items) }
-{
-    if is_covered(rules, access) {
-        return Ok(());
-    }
-    entries.push(*access)?;
-    Ok(())
-}
-
-/// Those of the loads and stores for which no rule stands, in their order.
-pub(crate) fn find_entries(
-    alloc: Global,
-    rules: &[FoundRule],
-    accesses: &[FoundAccess],
-) -> Result<Vec<FoundAccess>, AllocError>
-    ensures { IfOk result (λ entries. AreEntries accesses.now rules.now entries.items) }
-{
-    let mut entries = Vec::new(alloc);
-    for access in accesses {
-        keep_entry(&mut entries, rules, access)?;
-    }
-    Ok(entries)
 }

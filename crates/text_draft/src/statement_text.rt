@@ -9,12 +9,14 @@ ghost use Rattle.text_draft.specs.DraftText.{rule_list_text, rule_text, rules_te
 ghost use Rattle.text_draft.specs.DraftText.{candidate_list_text, candidate_text, candidates_text};
 ghost use Rattle.text_draft.specs.DraftText.{comment_text, cycle_text, destination_text, destinations_text};
 ghost use Rattle.text_draft.specs.DraftText.{element_text, end_text, end_words, full_text, head_text};
-ghost use Rattle.text_draft.specs.DraftText.{loop_text, place_text, target_text, way_text, words_from};
+ghost use Rattle.text_draft.specs.DraftText.{ground_text, loop_text, place_text, target_text, way_text};
+ghost use Rattle.text_draft.specs.DraftText.{words_from, written};
 
 use crate::accesses::FoundAccess;
 use crate::draft_rows::{end_row, put_address, put_blanks, put_name};
 use crate::ends::End;
 use crate::found_loop::FoundLoop;
+use crate::grounds::Ground;
 use crate::pc_writers::{FoundTarget, Way};
 use crate::rules::FoundRule;
 use arm2_decode::Register;
@@ -103,7 +105,7 @@ impl<'a> Sheet<'_, 'a> {
         put(out, b"  {register = \"")?;
         put_register(out, rule.register)?;
         put(out, b"\"")?;
-        put_class(out, rule.class)?;
+        put_class(out, rule.class, rule.basis)?;
         put(out, b"  # ")?;
         put_decimal(out, rule.count as u64)?;
         put(out, b" loads and stores, the first ")?;
@@ -156,7 +158,7 @@ impl<'a> Sheet<'_, 'a> {
         let line = self.line(access.at);
         put(out, b"  {at = ")?;
         put_name(out, line, access.at)?;
-        put_class(out, access.class)?;
+        put_class(out, access.class, access.basis)?;
         end_row(out, start, line)
     }
 
@@ -239,14 +241,8 @@ impl<'a> Sheet<'_, 'a> {
         self.put_access_lists(out, rules, entries)
     }
 
-    fn put_loop(
-        &self,
-        out: &mut Vec<u8>,
-        open_left: bool,
-        found: &FoundLoop,
-    ) -> Result<(), AllocError>
-        ensures { OnOk result
-            (out.new.items ≡ out.old.items ++ loop_text self.now.lines.now open_left found.now) }
+    fn put_loop(&self, out: &mut Vec<u8>, found: &FoundLoop) -> Result<(), AllocError>
+        ensures { OnOk result (out.new.items ≡ out.old.items ++ loop_text self.now.lines.now found.now) }
     {
         let indent = 2 * found.depth as usize;
         put(out, b"\n")?;
@@ -255,26 +251,20 @@ impl<'a> Sheet<'_, 'a> {
         self.put_place(out, indent, b"header", found.header)?;
         self.put_place(out, indent, b"first", found.first)?;
         self.put_place(out, indent, b"last", found.last)?;
-        put_bound(out, indent, open_left, found.turns)
+        put_bound(out, indent, found.proved, found.turns)
     }
 
-    /// Adds the loops, each inside those around it. While it is left open where a word leads, a count is a
-    /// comment alone.
+    /// Adds the loops, each inside those around it. A count for which no proof is claimed is a comment alone.
     ///
     /// # Errors
     ///
     /// An allocation failed.
-    pub fn put_loops(
-        &self,
-        out: &mut Vec<u8>,
-        open_left: bool,
-        loops: &[FoundLoop],
-    ) -> Result<(), AllocError>
+    pub fn put_loops(&self, out: &mut Vec<u8>, loops: &[FoundLoop]) -> Result<(), AllocError>
         ensures { OnOk result
-            (out.new.items ≡ out.old.items ++ flat_map (loop_text self.now.lines.now open_left) loops.now) }
+            (out.new.items ≡ out.old.items ++ flat_map (loop_text self.now.lines.now) loops.now) }
     {
         for found in loops {
-            self.put_loop(out, open_left, found)?;
+            self.put_loop(out, found)?;
         }
         Ok(())
     }
@@ -534,13 +524,43 @@ pub(crate) fn put_register(out: &mut Vec<u8>, register: Register) -> Result<(), 
     put_decimal(out, u64::from(register.number()))
 }
 
+/// The class that is written: one that rests on a pattern alone is left to the author.
+pub(crate) fn written(class: Class, basis: Ground) -> Class
+    ensures { result ≡ written class basis }
+{
+    match basis {
+        Ground::Word | Ground::Proof => class,
+        Ground::Pattern => Class::Any,
+    }
+}
+
+fn put_pattern(out: &mut Vec<u8>, class: Class) -> Result<(), AllocError>
+    ensures { OnOk result (out.new.items ≡ out.old.items ++ ground_text class Ground.Pattern) }
+{
+    put(out, b"  # looks like \"")?;
+    put(out, class_name(class).as_bytes())?;
+    put(out, b"\"")
+}
+
+/// Adds what a class rests on, as a comment.
+pub(crate) fn put_ground(out: &mut Vec<u8>, class: Class, basis: Ground) -> Result<(), AllocError>
+    ensures { OnOk result (out.new.items ≡ out.old.items ++ ground_text class basis) }
+{
+    match basis {
+        Ground::Word => Ok(()),
+        Ground::Proof => put(out, b"  # proved"),
+        Ground::Pattern => put_pattern(out, class),
+    }
+}
+
 // Adds a class, and ends a table.
-fn put_class(out: &mut Vec<u8>, class: Class) -> Result<(), AllocError>
-    ensures { OnOk result (out.new.items ≡ out.old.items ++ class_text class) }
+fn put_class(out: &mut Vec<u8>, class: Class, basis: Ground) -> Result<(), AllocError>
+    ensures { OnOk result (out.new.items ≡ out.old.items ++ class_text class basis) }
 {
     put(out, b", class = \"")?;
-    put(out, class_name(class).as_bytes())?;
-    put(out, b"\"},")
+    put(out, class_name(written(class, basis)).as_bytes())?;
+    put(out, b"\"},")?;
+    put_ground(out, class, basis)
 }
 
 // Adds where a word is.
@@ -566,25 +586,21 @@ fn put_counted(out: &mut Vec<u8>, turns: u32, back: &[u8]) -> Result<(), AllocEr
 fn put_bound(
     out: &mut Vec<u8>,
     indent: usize,
-    open_left: bool,
+    proved: bool,
     turns: Option<u32>,
 ) -> Result<(), AllocError>
-    ensures { OnOk result (out.new.items ≡ out.old.items ++ bound_text indent open_left turns) }
+    ensures { OnOk result (out.new.items ≡ out.old.items ++ bound_text indent proved turns) }
 {
     put_blanks(out, indent)?;
     let Some(turns) = turns else {
         return put(out, b"bound = \"?\"\n");
     };
-    if open_left {
-        put(out, b"bound = \"?\"  # ")?;
-        put_counted(out, turns, b", if no other way leads into the loop\n")
-    } else {
+    if proved {
         put(out, b"bound = ")?;
-        put_counted(
-            out,
-            turns,
-            b"  # counted, if no [[target]] leads into the loop\n",
-        )
+        put_counted(out, turns, b"  # proved\n")
+    } else {
+        put(out, b"bound = \"?\"  # looks like ")?;
+        put_counted(out, turns, b"\n")
     }
 }
 

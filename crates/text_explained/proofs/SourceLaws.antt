@@ -10,6 +10,7 @@ use Rattle.longest_walk.specs.Folded.{unfolded}
 use Rattle.longest_walk.specs.Longest.{IsWalkOf}
 use Rattle.longest_walk.specs.declared.folded.Item.{Item}
 use Rattle.loop_bounds.specs.Tree.{Tree}
+use Rattle.sources.specs.File.{File}
 use Rattle.sources.specs.Source.{HasText, IsSource, source_of}
 use Rattle.sources.specs.declared.read.Source.{Source}
 use Rattle.sources.specs.declared.read.SourceText.{SourceText}
@@ -28,13 +29,15 @@ all_sum flow tree cost items words Image well walk fits once = image_sum flow tr
 abbrev AreOne : Type 0
 AreOne = (source : List ℕ) (image : Words) (names : Names) → assembled source ≡ Ok (image, names) → IsAssembly source image names
 
-module _ (reads : Reads) (are_one : AreOne) (bytes : List ℕ) where
-  listed : (words : Words) (names : Names) (text : SourceText) (flow : Flow) → IsWellFormed flow → source_of bytes ≡ Ok (words, names) → HasText bytes text → AreOnWords words flow.places
+module _ (reads : Reads) (are_one : AreOne) (file : File) where
+  listed : (words : Words) (names : Names) (text : SourceText) (flow : Flow) → IsWellFormed flow → source_of file ≡ Ok (words, names) → HasText file text → AreOnWords words flow.places
       → AreListedOnce flow.places (listed_words words text)
   listed words names (Lines own placed) flow well said has on =
-      source_stands reads bytes words names flow.places placed.items (are_one bytes words names (text_was_assembled bytes words names has.0 said)) has.2 well.no_exit on
-  listed words names Image flow well said has on = image_stands bytes words flow.places (image_was_read bytes words names has said) well.no_exit on
+      let plain = has.2.0 in
+      let read = has.2.1 in
+      source_stands reads plain words names flow.places placed.items (are_one plain words names (text_was_assembled file plain words names has.0 read said)) has.2.2 well.no_exit on
+  listed words names Image flow well said has on = image_stands file.bytes words flow.places (image_was_read file words names has said) well.no_exit on
 
-  pub listed_once : (source : Source) (flow : Flow) → IsWellFormed flow → IsSource bytes source → AreOnWords source.image flow.places
+  pub listed_once : (source : Source) (flow : Flow) → IsWellFormed flow → IsSource file source → AreOnWords source.image flow.places
       → AreListedOnce flow.places (listed_words source.image source.text)
   listed_once source flow well is on = listed source.image (address_of source.labels) source.text flow well is.said is.text on

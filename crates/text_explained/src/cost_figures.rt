@@ -3,6 +3,8 @@ ghost use Rattle.std.specs.BTreeMap.{get};
 ghost use Rattle.std.specs.Ordering.{nat_cmp};
 ghost use Rattle.assembler.specs.Assembles.{addresses_from};
 ghost use Rattle.bus_ticks.specs.declared.space.TheConstants.{SPACE_END};
+ghost use Rattle.longest_walk.specs.Folded.{unfolded};
+ghost use Rattle.walk_counts.specs.Counts.{AreCounts};
 ghost use Rattle.text_explained.specs.Costing.{IsCosting, figures_of, first_of};
 ghost use Rattle.text_explained.specs.Table.{first_at, is_passed, line_taken, passes_of, row_figures};
 ghost use Rattle.text_explained.specs.Table.{taken_on, ticks_in, ticks_of, told_at, told_word};
@@ -53,11 +55,13 @@ impl<'a> Costing<'a> {
         handler: &Handler<'_>,
         walk: TimedWalk<'a>,
     ) -> Result<Costing<'a>, AllocError>
+        requires { AreCounts handler.now.graph.edges (unfolded walk.longest.now.walk)
+            walk.counts.now }
         ensures { IfOk result
             (IsCosting handler.now.image.now handler.now.statement handler.now.graph walk.entry.longest.now
             walk.entry.starts.now (first_of walk.entry.first)) }
     {
-        let tally = WalkTally::of_walk(alloc, &handler.graph, &walk.longest.walk)?;
+        let tally = WalkTally::of_counts(alloc, &handler.graph, walk.counts)?;
         let latest = latest_starts(alloc, &handler.graph, walk.starts)?;
         let prices = priced(alloc, handler)?;
         Ok(Costing {

@@ -2,6 +2,7 @@ ghost use Rattle.std.specs.Prelude.{◌≡◌, ◌≢◌, ◌↔◌, ◌<◌, �
 ghost use Rattle.std.specs.Prelude.{Option};
 ghost use Rattle.std.specs.Prelude.{Contains, sum_by};
 ghost use Rattle.bus_ticks.specs.declared.profile.Profile.{Profile};
+ghost use Rattle.sources.specs.File.{File};
 ghost use Rattle.sources.specs.Source.{IsSource};
 ghost use Rattle.sources.specs.declared.read.Source.{Source};
 ghost use Rattle.sources.specs.declared.read.SourceText.{SourceText};
@@ -72,8 +73,8 @@ pub fn places_are_listed_once()
         → IsFlowGraph words stated profile flow
         → ((f : BuildFault) → f ≢ BuildFault.Memory → IsBuildFault words stated profile f → ⊥)
         → AreOnWords words flow.places }
-    ensures source { (bytes : List ℕ) (source : Source) (flow : Flow) → IsWellFormed flow
-        → IsSource bytes source → AreOnWords source.image flow.places
+    ensures source { (file : File) (source : Source) (flow : Flow) → IsWellFormed flow
+        → IsSource file source → AreOnWords source.image flow.places
         → AreListedOnce flow.places (listed_words source.image source.text) }
 {
     lines_are_spelled();

@@ -2,6 +2,7 @@
 
 ghost use Rattle.std.specs.Prelude.{IfOk};
 ghost use Rattle.longest_walk.specs.Folded.{unfolded};
+ghost use Rattle.walk_counts.specs.Counts.{AreCounts};
 ghost use Rattle.text_explained.specs.Costing.{first_of};
 ghost use Rattle.text_explained.specs.Table.{starts_of};
 ghost use Rattle.text_explained.specs.WalkRows.{AreWalkRows};
@@ -25,6 +26,7 @@ pub fn walk_rows<'a>(
     handler: &Handler<'_>,
     walk: TimedWalk<'_>,
 ) -> Result<Vec<TableRow<'a>>, AllocError>
+    requires { AreCounts handler.now.graph.edges (unfolded walk.longest.now.walk) walk.counts.now }
     ensures { IfOk result
         (λ rows. AreWalkRows source.now handler.now.image.now handler.now.statement handler.now.graph
         (unfolded walk.entry.longest.now.walk)

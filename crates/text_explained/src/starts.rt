@@ -8,13 +8,16 @@ use longest_walk::Longest;
 use std::alloc::{AllocError, Global};
 use std::collections::BTreeMap;
 
-/// A greatest walk, and when the places of its graph begin at the latest.
+/// A greatest walk, how often it takes each edge, and when the places of its graph begin at the latest.
 #[derive(Clone, Copy)]
 pub struct TimedWalk<'a> {
     pub longest: &'a Longest,
     /// The worst start of each place of the graph, in their order, in ticks from the handler's beginning
     /// ([`worst_starts`](longest_walk::worst_starts)).
     pub starts: &'a [u64],
+    /// How often the walk takes each edge of the graph, in their order
+    /// ([`edge_counts`](walk_counts::edge_counts)).
+    pub counts: &'a [u64],
     /// By the addresses where the graph has a place the greatest ticks after which a walk comes there for the
     /// first time; None where that is not asked for.
     pub first: Option<&'a BTreeMap<u32, u64>>,

@@ -4,6 +4,7 @@ ghost use Rattle.std.specs.Prelude.{◌≡◌, IfOk};
 ghost use Rattle.std.specs.BTreeMap.{get};
 ghost use Rattle.std.specs.Ordering.{nat_cmp};
 ghost use Rattle.longest_walk.specs.Folded.{unfolded};
+ghost use Rattle.walk_counts.specs.Counts.{AreCounts};
 ghost use Rattle.text_explained.specs.Costing.{figures_of, first_of};
 ghost use Rattle.text_explained.specs.Dearest.{is_unfolded};
 ghost use Rattle.text_explained.specs.Printed.{AreLines, IsTable, IsTableOf, has_lines};
@@ -164,6 +165,7 @@ pub fn cost_table(
     walk: TimedWalk<'_>,
     form: RowForm,
 ) -> Result<Vec<u8>, AllocError>
+    requires { AreCounts handler.now.graph.edges (unfolded walk.longest.now.walk) walk.counts.now }
     ensures { IfOk result
         (λ text. IsTable source.now handler.now.image.now handler.now.statement handler.now.graph
         (unfolded walk.entry.longest.now.walk)

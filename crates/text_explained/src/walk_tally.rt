@@ -1,9 +1,10 @@
-ghost use Rattle.std.specs.Prelude.{◌≡◌, IfOk, OnOk, cond};
+ghost use Rattle.std.specs.Prelude.{◌≡◌, IfOk, List, OnOk, cond, length};
 ghost use Rattle.std.specs.BTreeMap.{get};
 ghost use Rattle.std.specs.Ordering.{nat_cmp};
+ghost use Rattle.control_flow.specs.declared.edges.Edge.{Edge};
 ghost use Rattle.control_flow.specs.declared.edges.Label.TheVariants.{Do};
 ghost use Rattle.longest_walk.specs.Folded.{unfolded};
-ghost use Rattle.walk_counts.specs.Counts.{is_same_label};
+ghost use Rattle.walk_counts.specs.Counts.{AreCounts, is_same_label};
 ghost use Rattle.text_explained.specs.Taken.{Adds, IsTally, Puts, Starts, with_edge, widened};
 
 use control_flow::{Edge, Graph, Label, Place};
@@ -136,6 +137,20 @@ impl WalkTally {
         ensures { IfOk result (IsTally graph.now (unfolded walk.now)) }
     {
         let counts = edge_counts(alloc, graph, walk)?;
+        WalkTally::of_counts(alloc, graph, &counts)
+    }
+
+    /// What a walk takes at the graph's places that takes each edge so many times. `AllocError`: an allocation
+    /// failed.
+    pub(crate) fn of_counts(
+        alloc: Global,
+        graph: &Graph,
+        counts: &[u64],
+    ) -> Result<WalkTally, AllocError>
+        requires { length counts.now ≡ length graph.now.edges }
+        ensures { IfOk result (λ tally. (walk : List Edge) → AreCounts graph.now.edges walk counts.now
+            → IsTally graph.now walk tally) }
+    {
         let mut tally = WalkTally::of_places(alloc, graph.places())?;
         for number in 0..graph.edges().len() {
             tally.add(&graph.edges()[number], counts[number])?;

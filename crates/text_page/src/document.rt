@@ -1,5 +1,6 @@
 ghost use Rattle.std.specs.Prelude.{◌≡◌, IfOk};
 ghost use Rattle.longest_walk.specs.Folded.{unfolded};
+ghost use Rattle.walk_counts.specs.Counts.{AreCounts};
 ghost use Rattle.text_explained.specs.Costing.{first_of};
 ghost use Rattle.text_explained.specs.Table.{starts_of};
 ghost use Rattle.text_page.specs.Page.{IsPage};
@@ -37,6 +38,7 @@ pub fn page(
     walk: TimedWalk<'_>,
     extent: Extent,
 ) -> Result<Vec<u8>, AllocError>
+    requires { AreCounts handler.now.graph.edges (unfolded walk.longest.now.walk) walk.counts.now }
     ensures { IfOk result
         (λ text. IsPage source.now handler.now.image.now handler.now.statement handler.now.graph
         (unfolded walk.entry.longest.now.walk)

@@ -89,6 +89,12 @@ module _ (words : Words) (d : Direction) where
   pub has_rounds : (k : ℕ) (w : List Edge) (B : Set) (new : Outcomes) → Has new (After words d w B) → Has new (After words d (repeat (suc k) w) B)
   has_rounds k w B new h o = (λ i. after_rounds words d k w B o ((h o).0 i), λ a. (h o).1 (after_rounds_only words d k w B o a))
 
+  pub has_some_rounds : (k : ℕ) (w : List Edge) (B : Set) (new : Outcomes) → 0 < k → Has new (After words d w B) → Has new (After words d (repeat k w) B)
+  has_some_rounds k w B new some h = subst (λ n. Has new (After words d (repeat n w) B)) (sym (positive k some)) (has_rounds (k - 1) w B new h)
+    where
+      positive : (n : ℕ) → 0 < n → n ≡ suc (n - 1)
+      positive n lt = omega (arith, lt)
+
   -- ## Addresses
 
   pub notes_none : (B : Set) (old : ℕ → Bool) → Notes (Marks words d [] B) old old
@@ -217,14 +223,11 @@ module _ (words : Words) (d : Direction) where
         subst (λ (w : List Edge). Has set (After words d w (In set))) (sym (rounds_walk d item k body items is are ∙ ap (λ n. repeat n (in_order d (unfolded items))) none))
         (λ o. (λ i. i, λ i. i))
 
+    pub passed_repeat : (B : Set) (set : Outcomes) → Has set (After words d (repeat k (in_order d (unfolded items))) B) → Has set (After words d (walk_of d item) B)
+    passed_repeat B set h = subst (λ (w : List Edge). Has set (After words d w B)) (sym (rounds_walk d item k body items is are)) h
+
     pub passed_rounds : (B : Set) (set : Outcomes) → 0 < k → Has set (After words d (in_order d (unfolded items)) B) → Has set (After words d (walk_of d item) B)
-    passed_rounds B set some h =
-        subst (λ (w : List Edge). Has set (After words d w B))
-        (sym (rounds_walk d item k body items is are ∙ ap (λ n. repeat n (in_order d (unfolded items))) (positive k some)))
-        (has_rounds (k - 1) (in_order d (unfolded items)) B set h)
-      where
-        positive : (n : ℕ) → 0 < n → n ≡ suc (n - 1)
-        positive n lt = omega (arith, lt)
+    passed_rounds B set some h = passed_repeat B set (has_some_rounds k (in_order d (unfolded items)) B set some h)
 
     pub noted_rounds : (B : Set) (old new : ℕ → Bool) → Notes (Marks words d (repeat k (in_order d (unfolded items))) B) old new → Notes (Marks words d (walk_of d item) B) old new
     noted_rounds B old new notes = subst (λ (w : List Edge). Notes (Marks words d w B) old new) (sym (rounds_walk d item k body items is are)) notes

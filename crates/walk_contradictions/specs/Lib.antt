@@ -1,4 +1,5 @@
 pub mod Outcomes
 pub mod Contradictions
 pub mod Passing
+pub mod Sieve
 pub mod NotTaken

@@ -1,18 +1,23 @@
 -- How the outcomes are carried along a walk, from its first edge on or from its last one back. No part of what
 -- is reported: clauses of private functions cite these.
 use Rattle.std.specs.Prelude.{◌≡◌, ◌↔◌, ◌⊎◌, ℕ, Bool, true, false, if◌then◌else◌, List, [], ◌∷◌, reverse}
-use Rattle.std.specs.Prelude.{slice_index_or}
+use Rattle.std.specs.Prelude.{slice_index_or, IfSome, IsTrue, Some}
 use Rattle.arm2_decode.specs.Names.{cond_number}
+use Rattle.arm2_decode.specs.Table.{Means}
+use Rattle.arm2_decode.specs.declared.instr.Instr.{Instr}
+use Rattle.control_flow.specs.Kinds.{IsAction}
+use Rattle.control_flow.specs.declared.actions.Action.{Action}
 use Rattle.control_flow.specs.declared.edges.Edge.{Edge}
 use Rattle.image.specs.Image.{Words}
 use Rattle.longest_walk.specs.Folded.{open_item}
 use Rattle.longest_walk.specs.declared.folded.Item.{Item}
 use Rattle.text_explained.specs.Taken.{is_at}
-use Rattle.walk_contradictions.specs.Outcomes.{Exclude, MaySet, Tells}
+use Rattle.walk_contradictions.specs.Outcomes.{Exclude, MaySet, Tells, may_set_flags}
 use Rattle.walk_contradictions.specs.declared.outcomes.Outcome.{Outcome}
 use Rattle.walk_contradictions.specs.declared.outcomes.Outcomes.{Outcomes}
 use Rattle.walk_contradictions.specs.declared.passing.Direction.{Direction}
 use Rattle.walk_contradictions.specs.declared.passing.Direction.TheVariants.{Forward, Backward}
+use Rattle.walk_contradictions.specs.declared.passing.Telling.{Telling}
 
 -- the outcome is in the set
 abbrev pub has : Outcomes → Outcome → Bool
@@ -51,7 +56,20 @@ in_order Backward xs = reverse xs
 abbrev pub walk_of : Direction → Item → List Edge
 walk_of d item = in_order d (open_item item).walk
 
+-- what is told of the word where it is carried out, or where it is not
+pub record TellsSo (word : ℕ) (done : Bool) (t : Telling) : Type 0 where
+  pub action : Action
+  pub is : IsAction word action
+  pub outcome : t.outcome ≡ Some (record { cond = action.cond; holds = done })
+  pub sets : IsTrue t.sets ↔ ((done ≡ true) × ((i : Instr) × Means word i × (may_set_flags i.operation ≡ true)))
+
 module _ (words : Words) where
+  -- what the edge tells, if the image has its word, and whether that may set the flags there
+  pub record IsTelling (e : Edge) (t : Telling) : Type 0 where
+    pub told : IfSome t.outcome (Tells words e)
+    pub only : (o : Outcome) → Tells words e o → t.outcome ≡ Some o
+    pub sets : IsTrue t.sets ↔ MaySet words e
+
   -- Outcomes with which that of the edge is compared, by those before it on the way: back from the end, none
   -- where the edge's word itself may set the flags.
   abbrev pub Met : Direction → Edge → (Outcome → Type 0) → Outcome → Type 0

@@ -10,8 +10,9 @@ ghost use Rattle.walk_contradictions.specs.Contradictions.{IsContradictionSectio
 
 use crate::outcomes::Outcomes;
 use crate::passing::{Direction, Way};
+use crate::sieve::Sieve;
 use image::Image;
-use longest_walk::FoldedWalk;
+use longest_walk::{FoldedWalk, Item};
 use sources::Source;
 use std::alloc::{AllocError, Global};
 use std::collections::BTreeSet;
@@ -22,7 +23,31 @@ const HEADING: &[u8] =
     b"\nWithout visits no run takes this path, as these conditions exclude one another \
     (the bound is safe):\n";
 
-// The addresses of the words.
+// The addresses of the words in items.
+fn contradicted_in(
+    alloc: Global,
+    image: &Image,
+    items: &[Item],
+) -> Result<BTreeSet<u32>, AllocError>
+    ensures { IfOk result (λ named. (a : ℕ) → (contains nat_cmp named a ≡ true)
+        ↔ IsContradicted image.now (unfolded items.now) a) }
+{
+    let mut named = BTreeSet::new(alloc);
+    let none = Outcomes::none();
+    let forward = Way {
+        image,
+        direction: Direction::Forward,
+    };
+    forward.mark_items(items, &none, &mut named)?;
+    let backward = Way {
+        image,
+        direction: Direction::Backward,
+    };
+    backward.mark_items(items, &none, &mut named)?;
+    Ok(named)
+}
+
+// And in a walk, of which most edges are left out first: they cannot clash where all are possible.
 fn contradicted(
     alloc: Global,
     image: &Image,
@@ -31,19 +56,11 @@ fn contradicted(
     ensures { IfOk result (λ named. (a : ℕ) → (contains nat_cmp named a ≡ true)
         ↔ IsContradicted image.now (unfolded walk.now) a) }
 {
-    let mut named = BTreeSet::new(alloc);
-    let none = Outcomes::none();
-    let forward = Way {
-        image,
-        direction: Direction::Forward,
-    };
-    forward.mark_items(walk.items(), &none, &mut named)?;
-    let backward = Way {
-        image,
-        direction: Direction::Backward,
-    };
-    backward.mark_items(walk.items(), &none, &mut named)?;
-    Ok(named)
+    let sieve = Sieve::of(alloc, image, walk.items())?;
+    if sieve.possible {
+        return contradicted_in(alloc, image, &sieve.items);
+    }
+    contradicted_in(alloc, image, walk.items())
 }
 
 fn sorted(alloc: Global, named: &BTreeSet<u32>) -> Result<Vec<u32>, AllocError>
@@ -69,7 +86,8 @@ fn contradicted_words(
 /// before it: no flags give both outcomes, and no word from the first of the two on and before the second may
 /// set the flags. No text where the walk has none.
 ///
-/// It takes time linear in the walk as it is folded, times how deep its repeats are nested.
+/// It takes time linear in the walk as it is folded, times how deep its repeats are nested for the edges that
+/// may clash.
 ///
 /// # Errors
 ///

@@ -6,6 +6,7 @@ mod contradictions;
 mod law;
 mod outcomes;
 mod passing;
+mod sieve;
 
 pub use contradictions::contradiction_text;
 pub use law::contradicted_walks_are_not_taken;

@@ -3,6 +3,7 @@
 ghost use Rattle.std.specs.Prelude.{◌≡◌, ◌↔◌, ◌⊎◌, ◌<◌, ◌≤◌, ℕ, Bool, IsTrue, true, false};
 ghost use Rattle.std.specs.Prelude.{slice_index_or};
 ghost use Rattle.arm2_decode.specs.declared.flags.Flags.{Flags};
+ghost use Rattle.arm2_decode.specs.declared.names.Cond.TheVariants.{Al};
 ghost use Rattle.walk_contradictions.specs.Outcomes.{Exclude, Gives};
 ghost use Rattle.walk_contradictions.specs.declared.outcomes.Outcome.{Outcome};
 ghost use Rattle.walk_contradictions.specs.Passing.{Excludes, ExcludesAt, ExcludesBy, has};
@@ -82,6 +83,20 @@ impl Outcome {
         ensures { IsTrue result ↔ Exclude self other }
     {
         !some_flags(self, other)
+    }
+
+    /// Whether some flags give it.
+    pub(crate) fn is_possible(self) -> bool
+        ensures { IsTrue result → (flags : Flags) × Gives flags self }
+    {
+        some_flags(self, self)
+    }
+
+    /// Whether it is that the condition AL holds.
+    pub(crate) fn is_always(self) -> bool
+        ensures { IsTrue result → self ≡ record { cond = Al; holds = true } }
+    {
+        matches!(self.cond, Cond::Al) & self.holds
     }
 }
 

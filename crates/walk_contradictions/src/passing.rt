@@ -1,28 +1,29 @@
 //! What outcomes a walk carries along, forward and back, and where they clash.
 
-ghost use Rattle.std.specs.Prelude.{◌≡◌, ◌↔◌, ◌⊎◌, ◌<◌, ◌≤◌, ℕ, IfSome, IsTrue, OnOk, Some, true};
+ghost use Rattle.std.specs.Prelude.{◌≡◌, ◌↔◌, ◌⊎◌, ◌<◌, ◌≤◌, ℕ, IsTrue, OnOk, Some, true};
 ghost use Rattle.std.specs.Prelude.{length, slice_index_or};
 ghost use Rattle.std.specs.BTreeSet.{contains};
 ghost use Rattle.std.specs.List.{repeat};
 ghost use Rattle.std.specs.Ordering.{nat_cmp};
+ghost use Rattle.control_flow.specs.declared.edges.Edge.{Edge};
+ghost use Rattle.image.specs.Image.{Words};
 ghost use Rattle.longest_walk.specs.Folded.{unfolded};
 ghost use Rattle.longest_walk.specs.declared.folded.Item.{Item};
 ghost use Rattle.text_explained.specs.Leaving.{is_done};
 ghost use Rattle.text_explained.specs.Taken.{is_at};
-ghost use Rattle.walk_contradictions.specs.Outcomes.{MaySet, Tells, may_set_flags};
-ghost use Rattle.walk_contradictions.specs.Passing.{After, Clashes, Has, In, Marks, Met, Next, Notes};
-ghost use Rattle.walk_contradictions.specs.Passing.{has, in_order, walk_of};
+ghost use Rattle.walk_contradictions.specs.Outcomes.{may_set_flags};
+ghost use Rattle.walk_contradictions.specs.Passing.{After, Clashes, Has, In, IsTelling, Marks, Met, Next, Notes};
+ghost use Rattle.walk_contradictions.specs.Passing.{TellsSo, has, in_order, walk_of};
+ghost use Rattle.walk_contradictions.specs.Sieve.{IsIdle, IsPossible};
 ghost use Rattle.walk_contradictions.specs.declared.outcomes.Outcome.{Outcome};
-ghost use Rattle.word_shapes.specs.Words.{HasShape};
 
 use crate::outcomes::{Outcome, Outcomes};
-use arm2_decode::Operation;
-use control_flow::{Edge, Label, Place, action_of};
+use arm2_decode::{Operation, decode};
+use control_flow::{Edge, Label, Place};
 use image::Image;
 use longest_walk::Item;
 use std::alloc::AllocError;
 use std::collections::BTreeSet;
-use word_shapes::instr_at;
 
 /// From a walk's first edge on, or from its last one back.
 #[derive(Clone, Copy)]
@@ -59,57 +60,128 @@ fn may_set_flags(operation: &Operation) -> bool
     }
 }
 
-// Whether the word at an address may set the flags where it is carried out.
-fn sets_at(image: &Image, at: u32) -> bool
-    ensures { IsTrue result ↔ HasShape may_set_flags image.now at }
+/// What an edge tells of the flags.
+#[derive(Clone, Copy)]
+pub(crate) struct Telling {
+    // How the condition of its word comes out, if the image has the word.
+    outcome: Option<Outcome>,
+    // Whether the word is carried out there and may set the flags.
+    sets: bool,
+}
+
+// What a word tells where it is carried out, or where it is not.
+fn told_by(word: u32, done: bool) -> Telling
+    ensures { TellsSo word done result }
 {
-    match instr_at(image, at) {
-        Some(instr) => may_set_flags(&instr.operation),
-        None => false,
+    match decode(word) {
+        Ok(instr) => Telling {
+            outcome: Some(Outcome {
+                cond: instr.cond,
+                holds: done,
+            }),
+            sets: done & may_set_flags(&instr.operation),
+        },
+        Err(unallocated) => Telling {
+            outcome: Some(Outcome {
+                cond: unallocated.cond,
+                holds: done,
+            }),
+            sets: false,
+        },
     }
 }
 
-fn may_set(image: &Image, edge: &Edge) -> bool
-    ensures { IsTrue result ↔ MaySet image.now edge.now }
+pub(crate) fn told_at(image: &Image, edge: &Edge) -> Telling
+    ensures { IsTelling image.now edge.now result }
 {
-    if !is_done(edge.label) {
-        return false;
-    }
-    sets_at(image, edge.from.address())
-}
-
-// What the edge tells, if its word is in the image.
-fn told(image: &Image, edge: &Edge) -> Option<Outcome>
-    ensures told { IfSome result (Tells image.now edge.now) }
-    ensures only { (o : Outcome) → Tells image.now edge.now o → result ≡ Some o }
-{
-    let word = image.word_at(edge.from.address())?;
-    Some(Outcome {
-        cond: action_of(word).cond,
-        holds: is_done(edge.label),
-    })
-}
-
-// With what the edge tells.
-fn with_told(image: &Image, edge: &Edge, set: &Outcomes) -> Outcomes
-    ensures { (o : Outcome) → (has result o ≡ true)
-        ↔ ((has set.now o ≡ true) ⊎ Tells image.now edge.now o) }
-{
-    match told(image, edge) {
-        Some(outcome) => set.with(outcome),
-        None => *set,
+    match image.word_at(edge.from.address()) {
+        Some(word) => told_by(word, is_done(edge.label)),
+        None => Telling {
+            outcome: None,
+            sets: false,
+        },
     }
 }
 
-// Those of the set, or none where the edge's word may set the flags.
-fn unless_set(image: &Image, edge: &Edge, set: &Outcomes) -> Outcomes
-    ensures { (o : Outcome) → (has result o ≡ true)
-        ↔ ((MaySet image.now edge.now → ⊥) × (has set.now o ≡ true)) }
-{
-    if may_set(image, edge) {
-        return Outcomes::none();
+impl Telling {
+    /// Whether its word is under AL and carried out, and does not set the flags.
+    pub(crate) fn is_idle(&self) -> bool
+        ensures { IsTrue result → (words : Words) (e : Edge) → IsTelling words e self.now → IsIdle words e }
+    {
+        if self.sets {
+            return false;
+        }
+        match self.outcome {
+            Some(outcome) => outcome.is_always(),
+            None => false,
+        }
     }
-    *set
+
+    /// Whether some flags give what it tells.
+    pub(crate) fn is_possible(&self) -> bool
+        ensures { IsTrue result → (words : Words) (e : Edge) → IsTelling words e self.now → IsPossible words e }
+    {
+        match self.outcome {
+            Some(outcome) => outcome.is_possible(),
+            None => true,
+        }
+    }
+
+    // The set with what the edge tells.
+    fn joined_to(&self, set: &Outcomes) -> Outcomes
+        ensures { (o : Outcome) → (has result o ≡ true)
+            ↔ ((has set.now o ≡ true) ⊎ (self.now.outcome ≡ Some o)) }
+    {
+        match self.outcome {
+            Some(outcome) => set.with(outcome),
+            None => *set,
+        }
+    }
+
+    // Those of the set, or none where the edge's word may set the flags.
+    fn left_of(&self, set: &Outcomes) -> Outcomes
+        ensures { (o : Outcome) → (has result o ≡ true)
+            ↔ ((self.now.sets ≡ true → ⊥) × (has set.now o ≡ true)) }
+    {
+        if self.sets {
+            return Outcomes::none();
+        }
+        *set
+    }
+
+    // The outcomes after the edge.
+    fn next(&self, direction: Direction, before: &Outcomes) -> Outcomes
+        ensures { (words : Words) (e : Edge) → IsTelling words e self.now
+            → Has result (Next words direction e (In before.now)) }
+    {
+        match direction {
+            Direction::Forward => self.left_of(&self.joined_to(before)),
+            Direction::Backward => self.joined_to(&self.left_of(before)),
+        }
+    }
+
+    // Those with which that of the edge is compared.
+    fn met(&self, direction: Direction, before: &Outcomes) -> Outcomes
+        ensures { (words : Words) (e : Edge) → IsTelling words e self.now
+            → Has result (Met words direction e (In before.now)) }
+    {
+        match direction {
+            Direction::Forward => *before,
+            Direction::Backward => self.left_of(before),
+        }
+    }
+
+    // Whether the edge tells an outcome that one of those excludes.
+    fn clashes(&self, direction: Direction, before: &Outcomes) -> bool
+        ensures { (words : Words) (e : Edge) → IsTelling words e self.now
+            → IsTrue result ↔ Clashes words direction e (In before.now) }
+    {
+        let met = self.met(direction, before);
+        match self.outcome {
+            Some(outcome) => met.excludes(outcome),
+            None => false,
+        }
+    }
 }
 
 /// A way through walks over the words of an image.
@@ -143,45 +215,27 @@ fn before_rounds(rounds: u32, before: &Outcomes, after: &Outcomes) -> Outcomes
     before.joined(after)
 }
 
+// Adds the address that the edge leaves, if so.
+fn note_if(clashes: bool, edge: &Edge, named: &mut BTreeSet<u32>) -> Result<(), AllocError>
+    ensures { OnOk result ((a : ℕ) → (contains nat_cmp named.new a ≡ true)
+        ↔ ((contains nat_cmp named.old a ≡ true) ⊎ ((is_at a edge.now.from ≡ true) × IsTrue clashes))) }
+{
+    if !clashes {
+        return Ok(());
+    }
+    let Place::At(_, address) = edge.from else {
+        return Ok(());
+    };
+    named.insert(address)?;
+    Ok(())
+}
+
 impl Way<'_> {
     // The outcomes after the edge.
     fn next(self, edge: &Edge, before: &Outcomes) -> Outcomes
         ensures { Has result (Next self.entry.image.now self.entry.direction edge.now (In before.now)) }
     {
-        match self.direction {
-            Direction::Forward => unless_set(
-                self.image,
-                edge,
-                &with_told(self.image, edge, before),
-            ),
-            Direction::Backward => with_told(
-                self.image,
-                edge,
-                &unless_set(self.image, edge, before),
-            ),
-        }
-    }
-
-    // Those with which that of the edge is compared.
-    fn met(self, edge: &Edge, before: &Outcomes) -> Outcomes
-        ensures { Has result (Met self.entry.image.now self.entry.direction edge.now (In before.now)) }
-    {
-        match self.direction {
-            Direction::Forward => *before,
-            Direction::Backward => unless_set(self.image, edge, before),
-        }
-    }
-
-    // Whether the edge tells an outcome that one of those excludes.
-    fn clashes(self, edge: &Edge, before: &Outcomes) -> bool
-        ensures { IsTrue result
-            ↔ Clashes self.entry.image.now self.entry.direction edge.now (In before.now) }
-    {
-        let met = self.met(edge, before);
-        match told(self.image, edge) {
-            Some(outcome) => met.excludes(outcome),
-            None => false,
-        }
+        told_at(self.image, edge).next(self.direction, before)
     }
 
     // The outcomes after an item.
@@ -211,24 +265,22 @@ impl Way<'_> {
         }
     }
 
-    // Adds the address that the edge leaves, if it clashes.
-    fn note_clash(
+    // Adds the address that the edge leaves, if it clashes. The set is what comes after it.
+    fn mark_step(
         self,
         edge: &Edge,
-        before: &Outcomes,
+        set: &mut Outcomes,
         named: &mut BTreeSet<u32>,
     ) -> Result<(), AllocError>
-        ensures { OnOk result ((a : ℕ) → (contains nat_cmp named.new a ≡ true)
+        ensures after { OnOk result
+            (Has set.new (Next self.entry.image.now self.entry.direction edge.now (In set.old))) }
+        ensures notes { OnOk result ((a : ℕ) → (contains nat_cmp named.new a ≡ true)
             ↔ ((contains nat_cmp named.old a ≡ true) ⊎ ((is_at a edge.now.from ≡ true)
-            × Clashes self.entry.image.now self.entry.direction edge.now (In before.now)))) }
+            × Clashes self.entry.image.now self.entry.direction edge.now (In set.old)))) }
     {
-        if !self.clashes(edge, before) {
-            return Ok(());
-        }
-        let Place::At(_, address) = edge.from else {
-            return Ok(());
-        };
-        named.insert(address)?;
+        let telling = told_at(self.image, edge);
+        note_if(telling.clashes(self.direction, set), edge, named)?;
+        *set = telling.next(self.direction, set);
         Ok(())
     }
 
@@ -238,35 +290,40 @@ impl Way<'_> {
         self,
         rounds: u32,
         body: &[Item],
-        before: &Outcomes,
+        set: &mut Outcomes,
         named: &mut BTreeSet<u32>,
     ) -> Result<(), AllocError>
-        ensures { OnOk result (Notes (Marks self.entry.image.now self.entry.direction
-            (repeat rounds (in_order self.entry.direction (unfolded body.now))) (In before.now))
+        ensures after { OnOk result (Has set.new (After self.entry.image.now self.entry.direction
+            (repeat rounds (in_order self.entry.direction (unfolded body.now))) (In set.old))) }
+        ensures notes { OnOk result (Notes (Marks self.entry.image.now self.entry.direction
+            (repeat rounds (in_order self.entry.direction (unfolded body.now))) (In set.old))
             (contains nat_cmp named.old) (contains nat_cmp named.new)) }
     {
         if rounds == 0 {
             return Ok(());
         }
-        let mut after = *before;
-        self.pass_items(body, &mut after);
-        self.mark_items(body, &before_rounds(rounds, before, &after), named)
+        let before = *set;
+        self.pass_items(body, set);
+        self.mark_items(body, &before_rounds(rounds, &before, set), named)
     }
 
+    // Adds the addresses of the edges of an item that clash. The set is what comes after it.
     #[cycle(mark)]
     fn mark_item(
         self,
         item: &Item,
-        before: &Outcomes,
+        set: &mut Outcomes,
         named: &mut BTreeSet<u32>,
     ) -> Result<(), AllocError>
-        ensures { OnOk result (Notes (Marks self.entry.image.now self.entry.direction
-            (walk_of self.entry.direction item.now) (In before.now))
+        ensures after { OnOk result (Has set.new (After self.entry.image.now self.entry.direction
+            (walk_of self.entry.direction item.now) (In set.old))) }
+        ensures notes { OnOk result (Notes (Marks self.entry.image.now self.entry.direction
+            (walk_of self.entry.direction item.now) (In set.old))
             (contains nat_cmp named.old) (contains nat_cmp named.new)) }
     {
         match item {
-            Item::Step(edge) => self.note_clash(edge, before, named),
-            Item::Repeat(rounds, body) => self.mark_rounds(*rounds, body, before, named),
+            Item::Step(edge) => self.mark_step(edge, set, named),
+            Item::Repeat(rounds, body) => self.mark_rounds(*rounds, body, set, named),
         }
     }
 
@@ -285,9 +342,11 @@ impl Way<'_> {
     {
         let mut set = *before;
         for number in 0..items.len() {
-            let item = &items[place_at(self.direction, items, number)];
-            self.mark_item(item, &set, named)?;
-            self.pass_item(item, &mut set);
+            self.mark_item(
+                &items[place_at(self.direction, items, number)],
+                &mut set,
+                named,
+            )?;
         }
         Ok(())
     }

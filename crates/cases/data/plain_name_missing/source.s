@@ -1,2 +1,3 @@
 n EQU m
-m EQU 1
+m EQU k
+k EQU 1

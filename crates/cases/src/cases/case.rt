@@ -112,10 +112,12 @@ impl<R: Files + AllocGlobal> Folder<'_, R> {
         }
     }
 
-    // The image that `asm SOURCE IMAGE` is to write.
+    // The image that `asm`, its options, `SOURCE IMAGE` is to write.
     fn image(&self, words: &[String]) -> Result<Option<Vec<u8>>, CaseFault> {
         match words {
-            [_, command, _, image] if command.as_str() == "asm" => self.read_if_any(image.as_str()),
+            [_, command, .., _, image] if command.as_str() == "asm" => self.read_if_any(
+                image.as_str(),
+            ),
             _ => Ok(None),
         }
     }

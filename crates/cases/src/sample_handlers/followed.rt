@@ -68,14 +68,14 @@ fn print_followed(
 ) -> Result<bool, HandlerFault> {
     let Some(fiq_statement) = fiq else {
         let run = FollowedRun {
-            source: &files.source,
+            source: files.source_file(),
             statement: &files.statement,
             machine: &files.machine,
         };
         return Ok(fault_only(follow_report(alloc, run, None, report))?);
     };
     let run = FollowedVisits {
-        source: &files.source,
+        source: files.source_file(),
         statement: &files.statement,
         fiq_statement,
         machine: &files.machine,

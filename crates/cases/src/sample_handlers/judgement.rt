@@ -2,8 +2,8 @@ use crate::sample_handlers::followed::{Followed, follow_run};
 use crate::sample_handlers::sample::Sample;
 use crate::sample_handlers::tight::{Edges, edges_of};
 use arcwcet::{
-    MemoryOutput, ReportFault, Store, StoreFault, VisitRate, VisitedHandler, bound_report,
-    check_report, fault_only, run_report, visits_report,
+    MemoryOutput, ReportFault, SourceFile, Store, StoreFault, VisitRate, VisitedHandler,
+    bound_report, check_report, fault_only, run_report, visits_report,
 };
 use std::alloc::{AllocError, Global};
 use std::fmt::Write;
@@ -91,6 +91,13 @@ pub(crate) struct Files {
     pub(crate) machine: Vec<u8>,
 }
 
+impl Files {
+    /// The file of its source.
+    pub(crate) fn source_file(&self) -> SourceFile<'_> {
+        SourceFile::plain(&self.source)
+    }
+}
+
 fn read_file<S: Store>(
     alloc: Global,
     store: &mut S,
@@ -141,13 +148,26 @@ fn is_accepted(
     cert: &[u8],
 ) -> Result<bool, HandlerFault> {
     let mut verdict = MemoryOutput::with_room(alloc, 0)?;
-    Ok(check_report(alloc, &files.source, statement, cert, None, &mut verdict)?)
+    Ok(check_report(
+        alloc,
+        files.source_file(),
+        statement,
+        cert,
+        None,
+        &mut verdict,
+    )?)
 }
 
 // By `bound`.
 fn bounded_alone(alloc: Global, files: &Files) -> Result<Bounded, HandlerFault> {
     let mut cert = MemoryOutput::with_room(alloc, 0)?;
-    bound_report(alloc, &files.source, &files.statement, None, &mut cert)?;
+    bound_report(
+        alloc,
+        files.source_file(),
+        &files.statement,
+        None,
+        &mut cert,
+    )?;
     Ok(Bounded {
         ticks: number_in(cert.bytes(), 1, "bound").ok_or(HandlerFault::Text)?,
         accepted: is_accepted(alloc, files, &files.statement, cert.bytes())?,
@@ -171,7 +191,7 @@ fn bounded_with_visits<'a>(
 ) -> Result<Bounded, HandlerFault> {
     let mut report = MemoryOutput::with_room(alloc, 0)?;
     let asked = VisitedHandler {
-        source: &files.source,
+        source: files.source_file(),
         irq: &files.statement,
         fiq_source: None,
         fiq,
@@ -188,7 +208,13 @@ fn bounded_with_visits<'a>(
 
 fn run_of(alloc: Global, files: &Files) -> Result<Run, HandlerFault> {
     let mut report = MemoryOutput::with_room(alloc, 0)?;
-    let finished = run_report(alloc, &files.source, &files.machine, None, &mut report)?;
+    let finished = run_report(
+        alloc,
+        files.source_file(),
+        &files.machine,
+        None,
+        &mut report,
+    )?;
     let (ticks, elapsed) = ticks_of(report.bytes()).ok_or(HandlerFault::Text)?;
     Ok(Run {
         finished,

@@ -26,7 +26,7 @@ fn runs_exactly(
     profile: Option<&[u8]>,
 ) -> Result<bool, HandlerFault> {
     let mut report = MemoryOutput::with_room(alloc, 0)?;
-    let finished = run_report(alloc, &files.source, file, profile, &mut report)?;
+    let finished = run_report(alloc, files.source_file(), file, profile, &mut report)?;
     let cost = cost_in(file).ok_or(HandlerFault::Text)?;
     Ok(finished && ticks_of(report.bytes()) == Some((cost, cost)))
 }
@@ -46,7 +46,7 @@ pub(crate) fn edges_of(
         let mut file = MemoryOutput::with_room(alloc, 0)?;
         match tight_report(
             alloc,
-            &files.source,
+            files.source_file(),
             &files.statement,
             number,
             profile,

@@ -1,8 +1,10 @@
-use Rattle.std.proofs.Common.{◌≤◌, ◌∙◌, [], List, ℕ, inl, inr, length, refl, rules, subst, sym}
+use Rattle.std.proofs.Common.{◌≤◌, ◌∙◌, [], List, ℕ, ap, inl, inr, length, refl, rules, subst, sym}
 use Rattle.std.specs.Io.KnownBytes.{Consumes}
 use Rattle.command_line.specs.Rows.{asked_of}
 use Rattle.command_line.specs.declared.line.Command.{Command}
-use Rattle.arcwcet.specs.Kept.{inputs_lent, kept_of}
+use Rattle.arcwcet.specs.Files.{dialect_of}
+use Rattle.arcwcet.specs.Kept.{inputs_kept, inputs_lent, kept_of}
+use Rattle.sources.specs.declared.file.Dialect.{Dialect}
 use Rattle.arcwcet.specs.Refusals.{Says, store_fault_name}
 use Rattle.arcwcet.proofs.FileLemmas.{bytes_kept, inputs_split}
 use Rattle.arcwcet.proofs.RunLemmas.{RunsAs, by_form, ran_of, says_line}
@@ -15,7 +17,8 @@ returns-in-Ok-read_limited-clause-done g c =
     let typed = c.deref.result.now in
     let input_read = c.in-Ok-read_limited.ensures in
     let says = Says g.E.Output.taken g.E.Output.failures asked c.args.err.now c.run_report.new.err in
-    let split = c.inputs.ensures ∙ inputs_split (λ n. n.now) (λ v. v.items) c.args.asked.profile files.profile (bytes_kept files.others.items) c.in-Ok.ensures.named in
+    let split = c.inputs.ensures ∙ ap (λ (d : Dialect). inputs_kept d files) c.dialect_of.ensures
+    ∙ inputs_split (λ n. n.now) (λ v. v.items) c.args.asked.profile files.profile (bytes_kept files.others.items) c.in-Ok.ensures.named (dialect_of asked.dialect) in
     let limit : length c.in-Ok-read_limited.typed.items ≤ 16777216 = search (rules, input_read.limit, c.in-Ok-read_limited.typed.ok) in
     subst (λ (k : Command). RunsAs g.S.Store.read_gives g.S.Store.write_gives g.I.Input.remaining g.I.Input.failures g.O.Output.taken g.O.Output.failures says asked c.args.store.now c.read_files.new.store c.args.input.now c.read_limited.new.input c.args.out.now c.run_report.new.out c.run_report.result k)
     (sym c.in-Debug.is)
@@ -56,7 +59,8 @@ returns g c =
     let files = c.in-Ok.files in
     let ran = c.run_report-in_default in
     let says = Says g.E.Output.taken g.E.Output.failures asked c.args.err.now ran.new.err in
-    let split = c.inputs.ensures ∙ inputs_split (λ n. n.now) (λ v. v.items) c.args.asked.profile files.profile (bytes_kept files.others.items) c.in-Ok.ensures.named in
+    let split = c.inputs.ensures ∙ ap (λ (d : Dialect). inputs_kept d files) c.dialect_of.ensures
+    ∙ inputs_split (λ n. n.now) (λ v. v.items) c.args.asked.profile files.profile (bytes_kept files.others.items) c.in-Ok.ensures.named (dialect_of asked.dialect) in
     record {
       done = by_form g.S.Store.read_gives g.S.Store.write_gives g.I.Input.remaining g.I.Input.failures g.O.Output.taken g.O.Output.failures says asked c.args.store.now c.read_files.new.store c.args.input.now c.args.input.now c.args.out.now ran.new.out ran.result asked.command
           (λ e. absurd (c.in_default.not-Asm e)) (λ e. absurd (c.in_default.not-Debug e))

@@ -19,7 +19,7 @@ use Rattle.follow_reports.specs.FollowVisits.{AreFollowable, AreNotFollowed, IsF
 use Rattle.command_line.specs.Rows.{asked_of}
 use Rattle.response_reports.specs.RespondReport.{IsAnswerable, IsRespondRefused, IsRespondReport}
 use Rattle.arcwcet.specs.Kept.{inputs_lent}
-use Rattle.arcwcet.specs.Reports.{answered, bursts_of, fiq_source_in, form_of, judged, question_in, rate_of, report_by, trace_end, trace_shows, version_report}
+use Rattle.arcwcet.specs.Reports.{answered, bursts_of, fiq_source_in, form_of, judged, question_in, rate_of, report_by, trace_end, trace_shows, vectors_report, version_report}
 use Rattle.arcwcet.proofs.RunLemmas.{answered_judged, answered_unpriced_report, answered_yes, same_answer}
 use Rattle.arcwcet.proofs.reports.print.Goals as goal
 
@@ -28,6 +28,12 @@ unfolding report_by
 returns-in-Version g c =
     rw (c.in-Version.is)
     (same_answer g.O.Output.taken g.O.Output.failures c.args.out.now c.print_version.new.out version_report c.print_version.result (fault_only c.alone.result) c.alone.ensures c.print_version.ensures)
+
+pub returns-in-Vectors : goal.returns-in-Vectors
+unfolding report_by
+returns-in-Vectors g c =
+    rw (c.in-Vectors.is)
+    (same_answer g.O.Output.taken g.O.Output.failures c.args.out.now c.print_vectors.new.out (vectors_report c.args.job.request.now.numbers) c.print_vectors.result (fault_only c.alone-in-Vectors.result) c.alone-in-Vectors.ensures c.print_vectors.ensures)
 
 pub returns-in-Asm : goal.returns-in-Asm
 unfolding report_by
@@ -50,7 +56,7 @@ unfolding report_by
 returns-in-Plain g c =
     let i = inputs_lent c.args.job.inputs in
     rw (c.in-Plain.is)
-    (answered_unpriced_report g.O.Output.taken g.O.Output.failures c.args.out.now c.plain_report.new.out (IsPlainReport i.source) (IsTranslated i.source) (IsPlainRefused i.source)
+    (answered_unpriced_report g.O.Output.taken g.O.Output.failures c.args.out.now c.plain_report.new.out (IsPlainReport i.source.bytes) (IsTranslated i.source.bytes) (IsPlainRefused i.source.bytes)
     c.plain_report.result c.plain_report.ensures (fault_only c.answered-in-Plain.result) (c.answered-in-Plain.ensures ∙ ap answered c.alone-in-Plain.ensures))
 
 pub returns-in-Draft : goal.returns-in-Draft

@@ -1,5 +1,6 @@
-use Rattle.std.proofs.Common.{ℕ, List, Option, subst}
-use Rattle.handlers.specs.Priced.{Priced, given}
+use Rattle.std.proofs.Common.{Option, option_map, subst}
+use Rattle.sources.specs.File.{File, file_of}
+use Rattle.handlers.specs.Priced.{Priced}
 use Rattle.handlers.specs.Refusal.{fault_only}
 use Rattle.bound_reports.specs.VisitsReport.{ReportsVisits}
 use Rattle.bound_reports.specs.declared.visit_rate.VisitRate.{VisitRate}
@@ -13,6 +14,6 @@ returns g c =
     let old = c.args.out.now in
     let new = c.visits_report.new.out in
     let answer = fault_only c.visits_report.result in
-    let by = λ (own : Option (List ℕ)) (rate : VisitRate). Priced i.profile (λ p. ReportsVisits g.O.Output.taken g.O.Output.failures i.source own i.second i.third rate p old new answer) old new answer in
-    subst (λ (own : Option (List ℕ)). by own (rate_of c.args.numbers)) c.fiq_source.ensures
-    (subst (λ (rate : VisitRate). by (given c.fiq_source.result) rate) c.rate_of.ensures c.visits_report.ensures.answers)
+    let by = λ (own : Option File) (rate : VisitRate). Priced i.profile (λ p. ReportsVisits g.O.Output.taken g.O.Output.failures i.source own i.second i.third rate p old new answer) old new answer in
+    subst (λ (own : Option File). by own (rate_of c.args.numbers)) c.fiq_source.ensures
+    (subst (λ (rate : VisitRate). by (option_map file_of c.fiq_source.result) rate) c.rate_of.ensures c.visits_report.ensures.answers)

@@ -9,6 +9,7 @@ use Rattle.handlers.specs.declared.fault.ReportFault.TheVariants.{Device}
 use Rattle.handlers.specs.declared.refusal.Refusal.TheVariants.{Alone}
 use Rattle.handlers.specs.Priced.{given}
 use Rattle.bound_reports.proofs.bound.print_bound.Goals as goal
+use Rattle.sources.specs.File.{file_of}
 
 pub returns-in_err-found-clause-answers : goal.returns-in_err-found-clause-answers
 returns-in_err-found-clause-answers g c =
@@ -16,11 +17,11 @@ returns-in_err-found-clause-answers g c =
     let q = c.from_residual-in_err-found.result in
     by_profile profile c.in_ok-profile.ensures.is
     (ends_refused _ _ _ _ _ c.args.out.now q c.in_err-found.field-0.0 c.from_residual-in_err-found.ensures.1 c.in_err-found.ensures.fault
-    (only_memory c.args.source.now c.args.statement.now profile (fault_only q)))
+    (only_memory (file_of c.args.source) c.args.statement.now profile (fault_only q)))
 
 pub returns-in_err-found-clause-carries : goal.returns-in_err-found-clause-carries
 returns-in_err-found-clause-carries g c =
-    profile_carries (given c.args.profile) c.args.source.now (c.args.statement.now ∷ []) c.from_residual-in_err-found.result c.in_ok-profile.profile c.in_ok-profile.ensures.is
+    profile_carries (given c.args.profile) (file_of c.args.source) (c.args.statement.now ∷ []) c.from_residual-in_err-found.result c.in_ok-profile.profile c.in_ok-profile.ensures.is
     c.in_err-found.field-0.0 c.from_residual-in_err-found.ensures.1 c.in_err-found.ensures.carries
 
 pub returns-in-Ok-clause-answers : goal.returns-in-Ok-clause-answers
@@ -35,4 +36,4 @@ returns-clause-answers g c =
 
 pub returns-clause-carries : goal.returns-clause-carries
 returns-clause-carries g c =
-    carries_by (given c.args.profile) c.args.source.now (c.args.statement.now ∷ []) c.in_ok-profile.profile c.in_ok-profile.ensures.is (Alone Device) tt
+    carries_by (given c.args.profile) (file_of c.args.source) (c.args.statement.now ∷ []) c.in_ok-profile.profile c.in_ok-profile.ensures.is (Alone Device) tt

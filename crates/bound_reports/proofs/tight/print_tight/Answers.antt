@@ -6,6 +6,7 @@ use Rattle.handlers.specs.Priced.{given}
 use Rattle.bound_reports.specs.TightReport.{IsTightReport}
 use Rattle.bound_reports.proofs.TightLemmas.{only_memory_or_device}
 use Rattle.bound_reports.proofs.tight.print_tight.Goals as goal
+use Rattle.sources.specs.File.{file_of}
 
 pub returns-in_err-text-clause-answers : goal.returns-in_err-text-clause-answers
 returns-in_err-text-clause-answers g c =
@@ -13,22 +14,22 @@ returns-in_err-text-clause-answers g c =
     let q = c.from_residual-in_err-text.result in
     by_profile profile c.in_ok-profile.ensures.is
     (ends_refused _ _ _ _ _ c.args.out.now q c.in_err-text.field-0.0 c.from_residual-in_err-text.ensures.1 c.in_err-text.ensures.fault
-    (only_memory_or_device c.args.asked.source.now c.args.asked.statement.now c.args.asked.number profile (fault_only q)))
+    (only_memory_or_device (file_of c.args.asked.source) c.args.asked.statement.now c.args.asked.number profile (fault_only q)))
 
 pub returns-in_err-text-clause-carries : goal.returns-in_err-text-clause-carries
 returns-in_err-text-clause-carries g c =
-    profile_carries (given c.args.profile) c.args.asked.source.now (c.args.asked.statement.now ∷ []) c.from_residual-in_err-text.result c.in_ok-profile.profile c.in_ok-profile.ensures.is
+    profile_carries (given c.args.profile) (file_of c.args.asked.source) (c.args.asked.statement.now ∷ []) c.from_residual-in_err-text.result c.in_ok-profile.profile c.in_ok-profile.ensures.is
     c.in_err-text.field-0.0 c.from_residual-in_err-text.ensures.1 c.in_err-text.ensures.carries
 
 pub returns-clause-answers : goal.returns-clause-answers
 returns-clause-answers g c =
     let asked = c.args.asked in
     let profile = c.in_ok-profile.profile in
-    let report = subst (IsTightReport asked.source.now asked.statement.now asked.number profile) (sym c.as_bytes.ensures.value) c.in_ok-text.ensures.report in
+    let report = subst (IsTightReport (file_of asked.source) asked.statement.now asked.number profile) (sym c.as_bytes.ensures.value) c.in_ok-text.ensures.report in
     by_profile profile c.in_ok-profile.ensures.is
     (ends_told _ _ _ _ _ c.args.out.now c.print_or_refuse.new.out tt c.as_bytes.result.now c.print_or_refuse.result
     report report.has tt c.print_or_refuse.ensures.printed c.print_or_refuse.ensures.device)
 
 pub returns-clause-carries : goal.returns-clause-carries
 returns-clause-carries g c =
-    device_carries (given c.args.profile) c.args.asked.source.now (c.args.asked.statement.now ∷ []) c.print_or_refuse.result c.in_ok-profile.profile c.in_ok-profile.ensures.is _ c.print_or_refuse.ensures.device
+    device_carries (given c.args.profile) (file_of c.args.asked.source) (c.args.asked.statement.now ∷ []) c.print_or_refuse.result c.in_ok-profile.profile c.in_ok-profile.ensures.is _ c.print_or_refuse.ensures.device

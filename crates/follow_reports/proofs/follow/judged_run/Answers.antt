@@ -6,6 +6,7 @@ use Rattle.kept_runs.specs.Keeping.{IsFollowed}
 use Rattle.follow_reports.specs.FollowWork.{IsFollowedText}
 use Rattle.follow_reports.proofs.FollowLemmas.{all_places, run_text}
 use Rattle.follow_reports.proofs.follow.judged_run.Goals as goal
+use Rattle.sources.specs.File.{file_of}
 
 pub follow-requires-clause-handler : goal.follow-requires-clause-handler
 follow-requires-clause-handler c =
@@ -32,5 +33,5 @@ returns-clause-judged c =
     record {
       inputs = inputs;
       inputs_are = c.in_ok-inputs.ensures;
-      is_text = run_text b.read.now.image h.statement h.graph h.tree c.requires.tree b.source.now b.longest.now start inputs c.graphs_are_well_formed.ensures c.step_law.ensures.cost c.run_law.ensures c.requires.longest c.requires.greatest after f j.kept j.text.items is (subst (λ (at : ℕ). IsFollowedText b.source.now b.read.now.image h.statement h.graph b.longest.now at f j.kept j.text.items) c.address-after.ensures.address c.in_ok-judgement.ensures);
+      is_text = run_text b.read.now.image h.statement h.graph h.tree c.requires.tree (file_of b.source) b.longest.now start inputs c.graphs_are_well_formed.ensures c.step_law.ensures.cost c.run_law.ensures c.requires.longest c.requires.greatest after f j.kept j.text.items is (subst (λ (at : ℕ). IsFollowedText (file_of b.source) b.read.now.image h.statement h.graph b.longest.now at f j.kept j.text.items) c.address-after.ensures.address c.in_ok-judgement.ensures);
     }

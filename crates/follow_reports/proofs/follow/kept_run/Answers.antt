@@ -2,10 +2,11 @@ use Rattle.std.proofs.Common.{rules}
 use Rattle.follow_reports.specs.FollowText.{kept_text}
 use Rattle.follow_reports.proofs.FollowLemmas.{told_in_pieces}
 use Rattle.follow_reports.proofs.follow.kept_run.Goals as goal
+use Rattle.sources.specs.File.{file_of}
 
 pub returns : goal.returns
 returns c =
-    let source = c.args.bounded.source.now in
+    let source = (file_of c.args.bounded.source) in
     record {
       left = c.in_ok-rest.rest.items;
       left_is = c.in_ok-rest.ensures source c.requires.read;

@@ -4,24 +4,25 @@ use Rattle.handlers.proofs.RefusalLemmas.{stop_carries, stop_err}
 use Rattle.handlers.proofs.ReportLemmas.{report_refusal}
 use Rattle.follow_reports.proofs.FollowLemmas.{Refused, handler_refused}
 use Rattle.follow_reports.proofs.follow.source_run.Goals as goal
+use Rattle.sources.specs.File.{file_of}
 
 pub returns-in_err-handler-clause-fault : goal.returns-in_err-handler-clause-fault
 returns-in_err-handler-clause-fault c =
     let r = c.args.run in
     let s = c.in_err-handler.field-0.0 in
-    refused_as c.from_residual.result s (λ s. Refused r.source.now r.statement.now r.machine.now c.args.profile.now (stop_fault s)) c.from_residual.ensures.1
-    (handler_refused r.source.now r.statement.now r.machine.now c.args.profile.now (stop_fault s)
-    (report_refusal r.source.now r.statement.now c.args.profile.now (stop_fault s) (c.in_err-handler.ensures.fault r.source.now c.requires.said)))
+    refused_as c.from_residual.result s (λ s. Refused (file_of r.source) r.statement.now r.machine.now c.args.profile.now (stop_fault s)) c.from_residual.ensures.1
+    (handler_refused (file_of r.source) r.statement.now r.machine.now c.args.profile.now (stop_fault s)
+    (report_refusal (file_of r.source) r.statement.now c.args.profile.now (stop_fault s) (c.in_err-handler.ensures.fault (file_of r.source) c.requires.said)))
 
 pub returns-in_err-handler_run-clause-fault : goal.returns-in_err-handler_run-clause-fault
 returns-in_err-handler_run-clause-fault c =
     let r = c.args.run in
     let e = c.in_err-handler_run.field-0.0 in
-    stop_err c.from_residual-in_err-handler_run.result e (Refused r.source.now r.statement.now r.machine.now c.args.profile.now) c.from_residual-in_err-handler_run.ensures.1 c.in_err-handler_run.ensures.fault
+    stop_err c.from_residual-in_err-handler_run.result e (Refused (file_of r.source) r.statement.now r.machine.now c.args.profile.now) c.from_residual-in_err-handler_run.ensures.1 c.in_err-handler_run.ensures.fault
 
 pub returns-in_err-handler_run-clause-carries : goal.returns-in_err-handler_run-clause-carries
 returns-in_err-handler_run-clause-carries c =
     stop_carries c.args.said.now c.args.run.statement.now c.args.profile.now c.from_residual-in_err-handler_run.result c.in_err-handler_run.field-0.0 c.from_residual-in_err-handler_run.ensures.1 c.in_err-handler_run.ensures.alone
 
 pub handler_run-requires-clause-loops : goal.handler_run-requires-clause-loops
-handler_run-requires-clause-loops c = c.in_ok-handler.ensures.is.loops c.args.run.source.now c.requires.said
+handler_run-requires-clause-loops c = c.in_ok-handler.ensures.is.loops (file_of c.args.run.source) c.requires.said

@@ -7,6 +7,7 @@ use Rattle.std.proofs.Common.{inl}
 use Rattle.follow_reports.specs.FollowVisits.{IsFollowVisitsReport}
 use Rattle.follow_reports.proofs.VisitedLemmas.{followable, only_memory}
 use Rattle.follow_reports.proofs.follow_visits.follow_visits_report.Goals as goal
+use Rattle.sources.specs.File.{file_of}
 
 pub returns-in_err-judged-clause-answers : goal.returns-in_err-judged-clause-answers
 returns-in_err-judged-clause-answers g c =
@@ -14,11 +15,11 @@ returns-in_err-judged-clause-answers g c =
     let q = c.from_residual-in_err-judged.result in
     by_profile profile c.in_ok-profile.ensures.is
     (ends_refused _ _ _ _ _ c.args.out.now q c.in_err-judged.field-0.0 c.from_residual-in_err-judged.ensures.1 c.in_err-judged.ensures.fault
-    (only_memory c.args.run.source.now c.args.run.statement.now c.args.run.fiq_statement.now c.args.run.machine.now profile (fault_only q)))
+    (only_memory (file_of c.args.run.source) c.args.run.statement.now c.args.run.fiq_statement.now c.args.run.machine.now profile (fault_only q)))
 
 pub returns-in_err-judged-clause-carries : goal.returns-in_err-judged-clause-carries
 returns-in_err-judged-clause-carries g c =
-    profile_carries (given c.args.profile) c.args.run.source.now (c.args.run.statement.now ∷ c.args.run.fiq_statement.now ∷ []) c.from_residual-in_err-judged.result c.in_ok-profile.profile c.in_ok-profile.ensures.is
+    profile_carries (given c.args.profile) (file_of c.args.run.source) (c.args.run.statement.now ∷ c.args.run.fiq_statement.now ∷ []) c.from_residual-in_err-judged.result c.in_ok-profile.profile c.in_ok-profile.ensures.is
     c.in_err-judged.field-0.0 c.from_residual-in_err-judged.ensures.1 c.in_err-judged.ensures.carries
 
 pub returns-clause-answers : goal.returns-clause-answers
@@ -27,11 +28,11 @@ returns-clause-answers g c =
     let profile = c.in_ok-profile.profile in
     let kept = c.in_ok-judged.judged.kept in
     let text = c.deref.result.now in
-    let is = subst (IsFollowVisitsReport r.source.now r.statement.now r.fiq_statement.now r.machine.now profile kept) (sym c.deref.ensures.value) c.in_ok-judged.ensures.judged in
+    let is = subst (IsFollowVisitsReport (file_of r.source) r.statement.now r.fiq_statement.now r.machine.now profile kept) (sym c.deref.ensures.value) c.in_ok-judged.ensures.judged in
     by_profile profile c.in_ok-profile.ensures.is
     (ends_told _ _ _ _ _ c.args.out.now c.print_or_refuse.new.out kept text c.print_or_refuse.result is
-    (followable r.source.now r.statement.now r.fiq_statement.now r.machine.now profile kept text is) (inl tt) c.print_or_refuse.ensures.printed c.print_or_refuse.ensures.device)
+    (followable (file_of r.source) r.statement.now r.fiq_statement.now r.machine.now profile kept text is) (inl tt) c.print_or_refuse.ensures.printed c.print_or_refuse.ensures.device)
 
 pub returns-clause-carries : goal.returns-clause-carries
 returns-clause-carries g c =
-    device_carries (given c.args.profile) c.args.run.source.now (c.args.run.statement.now ∷ c.args.run.fiq_statement.now ∷ []) c.print_or_refuse.result c.in_ok-profile.profile c.in_ok-profile.ensures.is _ c.print_or_refuse.ensures.device
+    device_carries (given c.args.profile) (file_of c.args.run.source) (c.args.run.statement.now ∷ c.args.run.fiq_statement.now ∷ []) c.print_or_refuse.result c.in_ok-profile.profile c.in_ok-profile.ensures.is _ c.print_or_refuse.ensures.device

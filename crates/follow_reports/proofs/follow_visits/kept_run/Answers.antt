@@ -1,6 +1,7 @@
 use Rattle.std.proofs.Common.{refl, rules}
 use Rattle.follow_reports.proofs.follow_visits.kept_run.Goals as goal
+use Rattle.sources.specs.File.{file_of}
 
 pub returns : goal.returns
 returns c =
-    (refl, (c.in_ok-left.left.items, c.in_ok-left.ensures c.args.both.source.now c.requires, search rules))
+    (refl, (c.in_ok-left.left.items, c.in_ok-left.ensures (file_of c.args.both.source) c.requires, search rules))

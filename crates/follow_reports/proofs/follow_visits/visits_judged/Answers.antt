@@ -5,6 +5,7 @@ use Rattle.kept_runs.specs.Arriving.{ArrivesAfter}
 use Rattle.kept_runs.specs.Visited.{IsVisitedRun, handled}
 use Rattle.follow_reports.specs.VisitedWork.{IsRunText}
 use Rattle.follow_reports.proofs.follow_visits.visits_judged.Goals as goal
+use Rattle.sources.specs.File.{file_of}
 
 pub follow_visited-requires-clause-machine : goal.follow_visited-requires-clause-machine
 follow_visited-requires-clause-machine c = c.arrive.ensures.machine c.args.both.irq.now.handler.graph c.requires.machine
@@ -37,6 +38,6 @@ returns-clause-judged c =
         after = after;
         run = run;
         judged = judged;
-        is_text = subst (λ (at : ℕ). IsRunText b.source.now b.read.now.image c.args.profile.now b.irq.now b.fiq.now before at run j.kept j.text.items) c.address-after.ensures.address c.in_ok-run_answer.ensures;
+        is_text = subst (λ (at : ℕ). IsRunText (file_of b.source) b.read.now.image c.args.profile.now b.irq.now b.fiq.now before at run j.kept j.text.items) c.address-after.ensures.address c.in_ok-run_answer.ensures;
       });
     }

@@ -1,10 +1,11 @@
 use Rattle.std.proofs.lemmas.Result.{IfErr-weaker}
 use Rattle.handlers.proofs.PlacingLemmas.{runnable_memory}
 use Rattle.handlers.proofs.placing.place.Goals as goal
+use Rattle.sources.specs.File.{file_of}
 
 pub returns : goal.returns
 returns c =
-    let source = c.args.source.now in
+    let source = (file_of c.args.source) in
     let said = c.in_ok-said.ensures.is.said in
     record {
       placed = c.place_image.ensures.placed source said;

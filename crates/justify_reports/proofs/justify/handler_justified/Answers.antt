@@ -15,19 +15,20 @@ use Rattle.justify_reports.specs.Rows.{AreStatedRows}
 use Rattle.justify_reports.specs.declared.rows.Row.{Row}
 use Rattle.justify_reports.proofs.TrustLemmas.{justified, own_graph}
 use Rattle.justify_reports.proofs.justify.handler_justified.Goals as goal
+use Rattle.sources.specs.File.{file_of}
 
 pub returns-in_err-found-clause-fault : goal.returns-in_err-found-clause-fault
 returns-in_err-found-clause-fault c =
     let j = c.args.justified in
-    refused_as c.from_residual.result c.in_err-found.field-0.0 (BeforeOutput (IsRefused j.source.now j.statement.now c.args.profile.now)) c.from_residual.ensures.1
-    (c.in_err-found.ensures.fault j.source.now j.statement.now c.args.profile.now c.requires.loops)
+    refused_as c.from_residual.result c.in_err-found.field-0.0 (BeforeOutput (IsRefused (file_of j.source) j.statement.now c.args.profile.now)) c.from_residual.ensures.1
+    (c.in_err-found.ensures.fault (file_of j.source) j.statement.now c.args.profile.now c.requires.loops)
 
 pub seen_of-requires-clause-graph : goal.seen_of-requires-clause-graph
 seen_of-requires-clause-graph c =
     let j = c.args.justified in
     let h = c.args.handler.now in
     subst (λ (w : Words). IsFlowGraph w h.statement h.graph.profile h.graph) (sym c.requires.image)
-    (own_graph j.source.now j.statement.now c.args.profile.now c.args.said.now c.requires.said h.statement h.graph h.tree c.requires.loops)
+    (own_graph (file_of j.source) j.statement.now c.args.profile.now c.args.said.now c.requires.said h.statement h.graph h.tree c.requires.loops)
 
 pub returns-clause-shows : goal.returns-clause-shows
 returns-clause-shows c =
@@ -41,7 +42,7 @@ returns-clause-shows c =
     let outside = seen.outside.items in
     let endless = seen.endless.items in
     let rows = c.in_ok-rows.rows.items in
-    justified j.source.now j.statement.now c.args.profile.now read c.requires.said h.statement h.graph h.tree c.requires.loops c.requires.tree c.run_law.ensures
+    justified (file_of j.source) j.statement.now c.args.profile.now read c.requires.said h.statement h.graph h.tree c.requires.loops c.requires.tree c.run_law.ensures
     j.given.now j.all c.is_enough.result left goes outside endless rows found c.in_ok-text.text.items c.in_ok-found.ensures.longest c.in_ok-found.ensures.allowed
     (subst (λ (w : Words). IfSome left (Justifies w h.statement h.graph j.given.now)) c.requires.image c.in_ok-seen.ensures.left)
     (subst (λ (w : Words). AreDestinations w h.statement h.graph h.tree j.given.now goes) c.requires.image c.in_ok-seen.ensures.goes)

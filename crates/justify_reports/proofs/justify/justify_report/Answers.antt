@@ -6,6 +6,7 @@ use Rattle.handlers.proofs.ReportLemmas.{only_memory}
 use Rattle.handlers.specs.Priced.{given}
 use Rattle.justify_reports.specs.JustifyReport.{IsJustifyReport}
 use Rattle.justify_reports.proofs.justify.justify_report.Goals as goal
+use Rattle.sources.specs.File.{file_of}
 
 pub returns-in_err-found-clause-answers : goal.returns-in_err-found-clause-answers
 returns-in_err-found-clause-answers g c =
@@ -13,11 +14,11 @@ returns-in_err-found-clause-answers g c =
     let q = c.from_residual-in_err-found.result in
     by_profile profile c.in_ok-profile.ensures.is
     (ends_refused _ _ _ _ _ c.args.out.now q c.in_err-found.field-0.0 c.from_residual-in_err-found.ensures.1 c.in_err-found.ensures.fault
-    (only_memory c.args.justified.source.now c.args.justified.statement.now profile (fault_only q)))
+    (only_memory (file_of c.args.justified.source) c.args.justified.statement.now profile (fault_only q)))
 
 pub returns-in_err-found-clause-carries : goal.returns-in_err-found-clause-carries
 returns-in_err-found-clause-carries g c =
-    profile_carries (given c.args.profile) c.args.justified.source.now (c.args.justified.statement.now ∷ []) c.from_residual-in_err-found.result c.in_ok-profile.profile c.in_ok-profile.ensures.is
+    profile_carries (given c.args.profile) (file_of c.args.justified.source) (c.args.justified.statement.now ∷ []) c.from_residual-in_err-found.result c.in_ok-profile.profile c.in_ok-profile.ensures.is
     c.in_err-found.field-0.0 c.from_residual-in_err-found.ensures.1 c.in_err-found.ensures.carries
 
 pub returns-clause-answers : goal.returns-clause-answers
@@ -25,11 +26,11 @@ returns-clause-answers g c =
     let j = c.args.justified in
     let profile = c.in_ok-profile.profile in
     let enough = c.in_ok-found.found.enough in
-    let shows = subst (IsJustifyReport j.source.now j.statement.now j.given.now j.all profile enough) (sym c.deref.ensures.value) c.in_ok-found.ensures.shows in
+    let shows = subst (IsJustifyReport (file_of j.source) j.statement.now j.given.now j.all profile enough) (sym c.deref.ensures.value) c.in_ok-found.ensures.shows in
     by_profile profile c.in_ok-profile.ensures.is
     (ends_told _ _ _ _ _ c.args.out.now c.print_or_refuse.new.out enough c.deref.result.now c.print_or_refuse.result
     shows shows.bounded.accepted tt c.print_or_refuse.ensures.printed c.print_or_refuse.ensures.device)
 
 pub returns-clause-carries : goal.returns-clause-carries
 returns-clause-carries g c =
-    device_carries (given c.args.profile) c.args.justified.source.now (c.args.justified.statement.now ∷ []) c.print_or_refuse.result c.in_ok-profile.profile c.in_ok-profile.ensures.is _ c.print_or_refuse.ensures.device
+    device_carries (given c.args.profile) (file_of c.args.justified.source) (c.args.justified.statement.now ∷ []) c.print_or_refuse.result c.in_ok-profile.profile c.in_ok-profile.ensures.is _ c.print_or_refuse.ensures.device

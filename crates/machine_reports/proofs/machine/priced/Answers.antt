@@ -3,12 +3,13 @@ use Rattle.handlers.proofs.AnswerLemmas.{ends_printed}
 use Rattle.machine_reports.specs.Machine.{IsMachineReport}
 use Rattle.machine_reports.proofs.MachineLemmas.{runnable}
 use Rattle.machine_reports.proofs.machine.priced.Goals as goal
+use Rattle.sources.specs.File.{file_of}
 
 pub returns : goal.returns
 returns g c =
     let shows = g.F.Front.shows in
     let ends = g.F.Front.ends in
-    let source = c.args.source.now in
+    let source = (file_of c.args.source) in
     let machine = c.args.machine.now in
     let s = c.in_ok-shown.shown in
     let text = c.as_bytes.result.now in

@@ -7,6 +7,7 @@ use Rattle.response_reports.specs.Question.{question_of}
 use Rattle.response_reports.specs.RespondReport.{IsAimRefused}
 use Rattle.response_reports.proofs.RespondLemmas.{aim_or_memory}
 use Rattle.response_reports.proofs.reaching.reached_by.Goals as goal
+use Rattle.sources.specs.File.{file_of}
 
 pub returns-in_err-handler-clause-fault : goal.returns-in_err-handler-clause-fault
 returns-in_err-handler-clause-fault c =
@@ -30,4 +31,4 @@ returns-in_err-reached_on-clause-carries c =
 
 pub returns-clause-reached : goal.returns-clause-reached
 returns-clause-reached c =
-    c.in_ok-reached_on.ensures.reached c.args.profile.now (c.in_ok-handler.ensures.is.loops c.args.asked.source.now c.requires)
+    c.in_ok-reached_on.ensures.reached c.args.profile.now (c.in_ok-handler.ensures.is.loops (file_of c.args.asked.source) c.requires)

@@ -31,8 +31,8 @@ returns c =
     let is_tables : of c.of-forms.result tabs.loops.items tabs.candidates.items tabs.targets.items ≡ t =
     ap (λ f. of f tabs.loops.items tabs.candidates.items tabs.targets.items) c.of-forms.ensures
     ∙ ap (λ x. of f x tabs.candidates.items tabs.targets.items) has.loops
-    ∙ ap (λ y. of f (loops_text lines st l) y tabs.targets.items) has.candidates
-    ∙ ap (λ z. of f (loops_text lines st l) (named_text lines st l) z) has.targets in
+    ∙ ap (λ y. of f (loops_text lines l) y tabs.targets.items) has.candidates
+    ∙ ap (λ z. of f (loops_text lines l) (named_text lines st l) z) has.targets in
     let fills : filled rows.apart.items rows.rules.items rows.entries.items begun ≡ b =
     ap (λ x. filled x rows.rules.items rows.entries.items begun) are.apart
     ∙ ap (λ x. filled (apart_rows lines l.apart) x rows.entries.items begun) are.rules

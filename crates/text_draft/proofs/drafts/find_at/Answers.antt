@@ -1,9 +1,9 @@
 use Rattle.std.proofs.Common.{◌∙◌, ap, subst, sym}
 use Rattle.std.specs.List.Sorted.{IsStrictlySortedBy}
 use Rattle.std.specs.Ordering.{nat_cmp}
-use Rattle.text_draft.specs.Accesses.{AreAccesses, AreUnclassed}
+use Rattle.text_draft.specs.Accesses.{AreUnclassed}
 use Rattle.text_draft.specs.Reach.{AreReached}
-use Rattle.text_draft.specs.Rules.{AreEntries, AreRules}
+use Rattle.text_draft.specs.Rules.{AreRules}
 use Rattle.text_draft.specs.Targets.{ArePending, leaves_open}
 use Rattle.text_draft.proofs.drafts.find_at.Goals as goal
 
@@ -19,22 +19,16 @@ returns c =
       addresses = addresses;
       writers = c.in_ok-writers.writers.items;
       transfers = c.in_ok-transfers.transfers.items;
-      accesses = accesses;
       ascend = subst (IsStrictlySortedBy nat_cmp) (sym c.as_slice-addresses.ensures.value) c.requires.ascend;
       reached = subst (AreReached words begun c.args.entry) (sym c.as_slice-addresses.ensures.value) c.requires.reached;
       full_is = c.is_full-full.ensures;
+      open_is = open_left;
       ends_are = c.in_ok-ends.ensures;
       writers_are = c.in_ok-writers.ensures;
       targets_are = subst (λ ws. ArePending begun ws targets) c.deref.ensures.value c.in_ok-targets.ensures;
-      transfers_are =
-          subst (λ b. AreAccesses words addresses b c.in_ok-transfers.transfers.items) open_left c.in_ok-transfers.ensures;
+      transfers_are = c.in_ok-transfers.ensures;
       accesses_are = subst (λ ts. AreUnclassed begun ts accesses) c.deref-3.ensures.value c.in_ok-accesses.ensures;
-      rules_are =
-          subst (λ b. AreRules words b accesses begun c.in_ok-rules.rules.items) open_left
-          (subst (λ es. AreRules words c.leaves_open-open_left.result es begun c.in_ok-rules.rules.items) c.deref-4.ensures.value c.in_ok-rules.ensures);
-      entries_are =
-          subst (λ rs. AreEntries accesses rs c.in_ok-entries.entries.items) c.deref-5.ensures.value
-          (subst (λ es. AreEntries es c.deref-5.result.now c.in_ok-entries.entries.items) c.deref-6.ensures.value c.in_ok-entries.ensures);
+      rules_are = subst (λ es. AreRules words c.leaves_open-open_left.result es begun c.in_ok-rules.rules.items) c.deref-4.ensures.value c.in_ok-rules.ensures;
       candidates_are = c.in_ok-candidates.ensures;
       loops_are = c.in_ok-loops.ensures;
     }

@@ -1,8 +1,8 @@
-use Rattle.std.proofs.Common.{◌∙◌, ◌++◌, None, ap, codes}
+use Rattle.std.proofs.Common.{◌∙◌, ◌++◌, ap, codes}
 use Rattle.std.proofs.lemmas.Result.{on_ok_weaker}
 use Rattle.std.specs.List.{flat_map}
 use Rattle.text_draft.specs.DraftText.{accesses_text, apart_text, candidates_text, cycle_text, end_text, loop_text, target_text}
-use Rattle.text_draft.specs.Targets.{any_open, leaves_open}
+use Rattle.text_draft.specs.Targets.{any_open}
 use Rattle.text_draft.proofs.FlatLaws.{draft_whole}
 use Rattle.text_draft.proofs.drafts.put_found.Goals as goal
 
@@ -12,7 +12,7 @@ returns c =
     let lines = c.args.sheet.now.lines.now in
     on_ok_weaker c.put_targets.result
     (λ last. draft_whole lines c.args.entry found.full found.ends.items found.loops.cycles.items found.loops.apart.items found.rules.items found.entries.items
-    found.loops.loops.items found.candidates.items found.targets.items c.args.out.now.items c.put_head.new.out.items
+    found.counted.items found.candidates.items found.targets.items c.args.out.now.items c.put_head.new.out.items
     c.put_full.new.out.items c.put_ends.new.out.items c.put_cycles.new.out.items c.put_apart.new.out.items c.put_accesses.new.out.items
     c.put_loops.new.out.items c.put_candidates.new.out.items c.put_targets.new.out.items
     c.in_ok-put_head.ensures c.in_ok-put_full.ensures
@@ -22,14 +22,10 @@ returns c =
     (c.in_ok-put_accesses.ensures
     ∙ ap (λ rs. c.put_apart.new.out.items ++ accesses_text lines rs c.deref-5.result.now) c.deref-4.ensures.value
     ∙ ap (λ es. c.put_apart.new.out.items ++ accesses_text lines found.rules.items es) c.deref-5.ensures.value)
-    (c.in_ok-put_loops.ensures
-    ∙ ap (λ xs. c.put_accesses.new.out.items ++ flat_map (loop_text lines c.leaves_open-open_left.result) xs) c.deref-7.ensures.value
-    ∙ ap (λ b. c.put_accesses.new.out.items ++ flat_map (loop_text lines b) found.loops.loops.items)
-    (c.leaves_open-open_left.ensures ∙ ap (λ b. leaves_open found.full b c.deref-6.result.now) c.nothing.ensures
-    ∙ ap (λ ts. leaves_open found.full None ts) c.deref-6.ensures.value))
+    (c.in_ok-put_loops.ensures ∙ ap (λ xs. c.put_accesses.new.out.items ++ flat_map (loop_text lines) xs) c.deref-6.ensures.value)
     (c.in_ok-put_candidates.ensures
-    ∙ ap (λ xs. c.put_loops.new.out.items ++ candidates_text lines (codes "below") c.any_open.result xs) c.deref-9.ensures.value
+    ∙ ap (λ xs. c.put_loops.new.out.items ++ candidates_text lines (codes "below") c.any_open.result xs) c.deref-8.ensures.value
     ∙ ap (λ b. c.put_loops.new.out.items ++ candidates_text lines (codes "below") b found.candidates.items)
-    (c.any_open.ensures ∙ ap (λ ts. any_open ts) c.deref-8.ensures.value))
-    (last ∙ ap (λ xs. c.put_candidates.new.out.items ++ flat_map (target_text lines) xs) c.deref-10.ensures.value))
+    (c.any_open.ensures ∙ ap (λ ts. any_open ts) c.deref-7.ensures.value))
+    (last ∙ ap (λ xs. c.put_candidates.new.out.items ++ flat_map (target_text lines) xs) c.deref-9.ensures.value))
     c.put_targets.ensures

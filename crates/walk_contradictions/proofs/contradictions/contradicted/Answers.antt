@@ -1,19 +1,21 @@
-use Rattle.std.proofs.Common.{List, reverse, subst}
-use Rattle.std.specs.BTreeSet.{contains}
-use Rattle.std.specs.Ordering.{nat_cmp}
+use Rattle.std.proofs.Common.{List, subst, sym}
+use Rattle.std.specs.Prelude.{◌↔◌}
+use Rattle.std.proofs.lemmas.Result.{IfOk-weaker}
 use Rattle.longest_walk.specs.Folded.{unfolded}
 use Rattle.longest_walk.specs.declared.folded.Item.{Item}
-use Rattle.walk_contradictions.specs.Passing.{In, Marks, Notes}
-use Rattle.walk_contradictions.specs.declared.passing.Direction.TheVariants.{Forward, Backward}
-use Rattle.walk_contradictions.proofs.LinkLemmas.{both_ways_marked, lacking, nowhere}
+use Rattle.walk_contradictions.specs.Contradictions.{IsContradicted}
+use Rattle.walk_contradictions.proofs.SieveLemmas.{same_contradictions}
 use Rattle.walk_contradictions.proofs.contradictions.contradicted.Goals as goal
 
-pub returns : goal.returns
-returns c =
-    both_ways_marked c.args.image.now (unfolded c.args.walk.now) (In c.none-none.result) (In c.none-none.result) (contains nat_cmp c.new-named.result)
-    (contains nat_cmp c.mark_items.new.named) (contains nat_cmp c.mark_items-2.new.named) (lacking c.none-none.result c.none-none.ensures)
-    (lacking c.none-none.result c.none-none.ensures) (nowhere c.new-named.result c.new-named.ensures.empty)
-    (subst (λ (xs : List Item). Notes (Marks c.args.image.now Forward (unfolded xs) (In c.none-none.result)) (contains nat_cmp c.new-named.result) (contains nat_cmp c.mark_items.new.named))
-    c.items.ensures c.in_ok-mark_items.ensures)
-    (subst (λ (xs : List Item). Notes (Marks c.args.image.now Backward (reverse (unfolded xs)) (In c.none-none.result)) (contains nat_cmp c.mark_items.new.named) (contains nat_cmp c.mark_items-2.new.named))
-    c.items-2.ensures c.in_ok-mark_items-2.ensures)
+pub returns-then-sieve : goal.returns-then-sieve
+returns-then-sieve c =
+    IfOk-weaker c.contradicted_in.result _ _
+    (λ named each a.
+    let same : IsContradicted c.args.image.now (unfolded c.deref.result.now) a ↔ IsContradicted c.args.image.now (unfolded c.args.walk.now) a =
+    subst (λ (xs : List Item). IsContradicted c.args.image.now (unfolded xs) a ↔ IsContradicted c.args.image.now (unfolded c.args.walk.now) a)
+    (sym c.deref.ensures.value)
+    (subst (λ (xs : List Item). IsContradicted c.args.image.now (unfolded c.in_ok-sieve.sieve.items.items) a ↔ IsContradicted c.args.image.now (unfolded xs) a)
+    c.items.ensures
+    (same_contradictions c.args.image.now (unfolded c.items.result.now) c.in_ok-sieve.sieve c.in_ok-sieve.ensures c.if-sieve.true a)) in
+    (λ x. same.0 ((each a).0 x), λ x. (each a).1 (same.1 x)))
+    c.contradicted_in.ensures

@@ -12,7 +12,7 @@ returns c =
     let old = c.args.out.now.items in
     let new = c.end_row.new.out.items in
     let front = codes "  {at = " in
-    let back = class_text e.class in
+    let back = class_text e.class e.basis in
     let line = c.line-line.result in
     on_ok_weaker c.end_row.result
     (λ row_is. subst (λ l. new ≡ old ++ row (front ++ (name_text (line_label l) e.at ++ back)) l)

@@ -12,7 +12,7 @@ returns c =
     let a = codes "  {register = \"" in
     let b = register_text r.register in
     let d = codes "\"" in
-    let e = class_text r.class in
+    let e = class_text r.class r.basis in
     let f = codes "  # " in
     let g = decimal r.count in
     let h = codes " loads and stores, the first " in

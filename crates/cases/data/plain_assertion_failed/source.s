@@ -1,0 +1,2 @@
+n EQU 4
+ ASSERT n/=4

@@ -1,0 +1,12 @@
+ TTL Card
+ AREA |Code|, CODE, READONLY
+ ENTRY
+n EQU 2
+ ASSERT n<4 :LAND: (n:SHL:1=4)
+ ASSERT :LNOT:(n>=3)
+l KEEP
+ MOV R0,#n
+ END
+n EQU 3
+
+ GARBAGE,

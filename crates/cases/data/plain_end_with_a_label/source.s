@@ -1,0 +1,2 @@
+ MOV R0,R1
+l END

@@ -1,0 +1,2 @@
+a EQU b
+b EQU a

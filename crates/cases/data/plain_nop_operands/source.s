@@ -1,0 +1,2 @@
+ NOP ; nothing
+ NOP R0

@@ -1,0 +1,13 @@
+use Rattle.std.proofs.Common.{subst}
+use Rattle.source_reports.specs.Proved.{IsProved}
+use Rattle.source_reports.proofs.draft.one_round.Goals as goal
+
+pub returns-in_default-clause-draft : goal.returns-in_default-clause-draft
+returns-in_default-clause-draft c =
+    let claims = c.args.rounds.now.claims in
+    record {
+      claims = claims;
+      parts = c.claim.new.self;
+      is_draft = c.in_ok-text.ensures claims c.in_ok-claim.ensures.graded;
+      proved = subst (λ t. IsProved c.args.read.now t c.claim.new.self) c.deref.ensures.value (c.in_ok-left.ensures.proved c.in_default.is);
+    }

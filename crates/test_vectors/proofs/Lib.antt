@@ -1,0 +1,5 @@
+mod AddressLaws
+mod ChainLaws
+mod TextLaws
+mod UseLaws
+mod VectorLaws

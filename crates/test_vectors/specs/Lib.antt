@@ -1,0 +1,3 @@
+pub mod Shape
+pub mod Vector
+pub mod Writing

@@ -1,7 +1,0 @@
-use Rattle.std.proofs.Common.{◌≡◌, false}
-use Rattle.text_draft.specs.Rules.{is_covered}
-use Rattle.text_draft.proofs.Picked.{SoFar}
-use Rattle.text_draft.proofs.rules.find_entries.Given as goal
-
-abbrev pub invariant-loop-access : goal.invariant-loop-access
-invariant-loop-access l = SoFar (λ e. is_covered l.rules e ≡ false) l.accesses l.access-index l.entries.items
