@@ -35,6 +35,16 @@ def short_form(outcome):
     return dataclasses.replace(outcome, err=b"".join(outcome.err.splitlines(keepends=True)[:1]))
 
 
+def unannounced(outcome, right):
+    """What standard error takes behind those first lines of `--progress` that the right answer begins with."""
+    rest = outcome.err
+    for line in right.err.splitlines(keepends=True):
+        if not line.startswith((b"reading ", b"writing: ")) or not rest.startswith(line):
+            break
+        rest = rest.removeprefix(line)
+    return rest
+
+
 @dataclasses.dataclass(frozen=True)
 class OutOfMemory:
     """The right answer, or the refusal, and the file of an image as it was or whole."""
@@ -51,7 +61,8 @@ class OutOfMemory:
         is_short = refused and self.right.status == 1 and outcome == short_form(self.right)
         if outcome != self.right and not is_short and not (refused and outcome.status == 3):
             return f"{outcome}; {refused} of {requests} requests were refused"
-        if outcome.status == 3 and (outcome.out or outcome.err not in (b"", b"refused: Memory\n")):
+        said = unannounced(outcome, self.right)
+        if outcome.status == 3 and (outcome.out or said not in (b"", b"refused: Memory\n")):
             return str(outcome)
         there = made_image(folder)
         is_so = there == (self.image if outcome == self.right else self.before)
