@@ -1,6 +1,6 @@
 //! The reports that commands print.
 
-ghost use Rattle.std.specs.Prelude.{◌≡◌, drop, map, option_map};
+ghost use Rattle.std.specs.Prelude.{◌≡◌, ◌≢◌, drop, map, option_map};
 ghost use Rattle.outputs.specs.OnTheWay.{Adds};
 ghost use Rattle.handlers.specs.Priced.{Priced};
 ghost use Rattle.handlers.specs.Refusal.{fault_only};
@@ -540,6 +540,7 @@ pub(crate) fn print<'b, O: Output>(
     typed: &[u8],
     out: &mut O,
 ) -> Result<bool, Refusal<'b>>
+    requires { (asked_of job.entry.request.now).command ≢ Command.Import }
     ensures { PrintsReport O.taken O.failures
         (report_of (asked_of job.entry.request.now) (inputs_lent job.entry.inputs) typed.now) out.old out.new
         (fault_only result) }
@@ -549,6 +550,7 @@ pub(crate) fn print<'b, O: Output>(
     match job.request.command {
         Command::Version => alone(print_version(out)),
         Command::Asm => answered(alone(asm_report(alloc, source, out))),
+        Command::Import => unreachable!(),
         Command::List => answered(alone(list_report(alloc, source, out))),
         Command::Plain => answered(alone(plain_report(alloc, source.bytes, out))),
         Command::Draft => {

@@ -63,7 +63,7 @@ returns g c =
     ∙ inputs_split (λ n. n.now) (λ v. v.items) c.args.asked.profile files.profile (bytes_kept files.others.items) c.in-Ok.ensures.named (dialect_of asked.dialect) in
     record {
       done = by_form g.S.Store.read_gives g.S.Store.write_gives g.I.Input.remaining g.I.Input.failures g.O.Output.taken g.O.Output.failures says asked c.args.store.now c.read_files.new.store c.args.input.now c.args.input.now c.args.out.now ran.new.out ran.result asked.command
-          (λ e. absurd (c.in_default.not-Asm e)) (λ e. absurd (c.in_default.not-Debug e))
+          (λ e. absurd (c.in_default.not-Asm e)) (λ e. absurd (c.in_default.not-Import e)) (λ e. absurd (c.in_default.not-Debug e))
           (ran_of g.S.Store.read_gives g.O.Output.taken g.O.Output.failures says asked [] c.args.store.now c.read_files.new.store c.args.out.now ran.new.out (kept_of files) (inputs_lent c.inputs.result) split c.in-Ok.ensures.read ran.result ran.ensures.ran, refl);
       silent = ran.ensures.silent;
     }
