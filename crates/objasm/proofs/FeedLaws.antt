@@ -11,19 +11,22 @@ use Rattle.asm_text.specs.Pieces.{is_name}
 use Rattle.asm_text.specs.Source.{lines_of, starts_feed}
 use Rattle.asm_text.proofs.WordLaws.{same_Ok}
 use Rattle.objasm.specs.Exchanges.{exchange_of, flipped, other_head}
+use Rattle.objasm.specs.Maps.{MapLine, map_line_of}
 use Rattle.objasm.specs.Names.{Meanings, and_then, is_set, mapped}
-use Rattle.objasm.specs.Parts.{Part, Run, Byte, after_blanks, blank_len, field_len, first_field, front_blanks, is_stop, parts, run_before}
-use Rattle.objasm.specs.PlainLines.{Text, assert_text, asserted, behind, body_text, exchanged_text, field_text, hex_literal, instruction_text, is_label_field, is_over, joined, kind_with, literal_at, literal_of, lone, nop_text, number_text, offset_text, operands_text, part_text, parts_text, plain_text, run_by, spaced_operands, statement_text, stop_text, stops_text, unset_text, value_text, word_line, word_with, written, written_so}
+use Rattle.objasm.specs.Parts.{Part, Run, Byte, after_blanks, blank_len, field_len, first_field, front_blanks, is_over, is_stop, parts, run_before}
+use Rattle.objasm.specs.PlainLines.{Text, address_in, assert_text, asserted, behind, body_text, exchanged_text, field_text, hex_literal, instruction_text, is_label_field, is_sum, joined, kind_with, literal_at, literal_of, lone, nop_text, number_text, offset_text, operands_text, operation_text, part_text, parts_text, place_text, placed_text, plain_text, register_text, run_by, spaced_operands, statement_text, stop_text, stops_text, sum_line, sum_text, unmapped_text, unset_text, value_text, word_line, word_with, written, written_so}
 use Rattle.objasm.specs.Settings.{Setting, setting_of, truth_of, value_of}
 use Rattle.objasm.specs.Source.{Plain, at_line, body, body_len, is_end, line_text, meanings_in, no_lines, plain_body, plain_lines, plain_of, shown_line, then_lines, translated, trimmed, with_line}
-use Rattle.objasm.specs.Words.{cond_place, is_assert, is_directive, is_nop, is_silent, known_cond, word_text}
+use Rattle.objasm.specs.Words.{cond_place, is_assert, is_directive, is_nop, is_silent, known_cond, sum_word, word_text}
 use Rattle.objasm.specs.declared.exchanges.Flip.{Flip}
 use Rattle.objasm.specs.declared.faults.LineFault.{LineFault}
 use Rattle.objasm.specs.declared.plain_lines.Translation.{Translation}
-use Rattle.objasm.specs.declared.plain_lines.Translation.TheVariants.{Number, Offset, Changed, Value, Parts}
+use Rattle.objasm.specs.declared.plain_lines.Translation.TheVariants.{Number, Offset, Changed, Value, Place, Sum, Parts}
 use Rattle.objasm.specs.declared.source.DialectFault.{DialectFault}
 use Rattle.objasm.specs.declared.source.PlainSource.{PlainSource}
+use Rattle.objasm.specs.declared.names.Address.{Address}
 use Rattle.objasm.specs.declared.words.Operands.{Operands}
+use Rattle.objasm.specs.declared.words.Operands.TheVariants.{Sums}
 
 is_in_line : ℕ → Bool
 is_in_line b = not (b == 10)
@@ -202,11 +205,35 @@ value_inside m ps h =
     (mapped_inside (λ n. parts_text m (front_blanks ps) ++ number_text ps n) (value_of m ps) (λ n.
     both (parts_text m (front_blanks ps)) (number_text ps n) (parts_text_inside m (front_blanks ps) (front_inside ps h)) (number_inside ps n h)))
 
+register_inside : (n : ℕ) → Inside (register_text n)
+unfolding is_in_line
+register_inside n = both (codes "R") (decimal n) refl (decimal_inside n)
+
+place_inside : (a : Address) → Inside (place_text a)
+unfolding is_in_line
+place_inside a =
+    both (codes "[") (register_text a.base ++ (codes ",#" ++ (offset_text [] a.offset ++ 93 ∷ []))) refl
+    (both (register_text a.base) (codes ",#" ++ (offset_text [] a.offset ++ 93 ∷ [])) (register_inside a.base)
+    (both (codes ",#") (offset_text [] a.offset ++ 93 ∷ []) refl
+    (both (offset_text [] a.offset) (93 ∷ []) (offset_inside [] a.offset refl) refl)))
+
+sum_inside : (a : Address) → Inside (sum_text a)
+unfolding is_in_line
+sum_inside a =
+    both (register_text a.base) (codes ",#" ++ decimal a.offset) (register_inside a.base)
+    (both (codes ",#") (decimal a.offset) refl (decimal_inside a.offset))
+
+placed_inside : (shown : Address → List ℕ) → ((a : Address) → Inside (shown a)) → (m : Meanings) (o : Option Address) (ps : List Part) → AllInside ps → Inside (placed_text shown m o ps)
+placed_inside shown all m (Some a) ps h = both (parts_text m (front_blanks ps)) (shown a) (parts_text_inside m (front_blanks ps) (front_inside ps h)) (all a)
+placed_inside shown all m None ps h = parts_text_inside m ps h
+
 field_inside : (m : Meanings) (how : Translation) (ps : List Part) → AllInside ps → IsInside (field_text m how ps)
 field_inside m Number ps h = mapped_inside (number_text ps) (value_of m ps) (λ n. number_inside ps n h)
 field_inside m Offset ps h = mapped_inside (offset_text ps) (value_of m ps) (λ n. offset_inside ps n h)
 field_inside m (Changed flip) ps h = mapped_inside (λ n. decimal (flipped flip n)) (value_of m ps) (λ n. decimal_inside (flipped flip n))
 field_inside m Value ps h = value_inside m ps h
+field_inside m Place ps h = placed_inside place_text place_inside m (address_in m ps) ps h
+field_inside m Sum ps h = placed_inside sum_text sum_inside m (address_in m ps) ps h
 field_inside m Parts ps h = parts_text_inside m ps h
 
 stop_inside : (m : Meanings) (kind : Operands) (ps : List Part) → AllInside ps → IsInside (stop_text m kind ps)
@@ -281,23 +308,38 @@ exchanged_inside w (Some flip) h =
     one_of (nat_lt (length w) 3) w (other_head (take 3 w) ++ drop 3 w) h
     (both (other_head (take 3 w)) (drop 3 w) (head_inside (take 3 w) (all_take is_in_line 3 w h)) (all_drop is_in_line 3 w h))
 
+summed_inside : (w : List ℕ) → Inside w → Inside (sum_word w)
+unfolding is_in_line
+summed_inside w h =
+    one_of (nat_lt (length w) 3) w (cond (bytes_eq (take 3 w) (codes "ADR")) (codes "ADD" ++ drop 3 w) (codes "add" ++ drop 3 w)) h
+    (one_of (bytes_eq (take 3 w) (codes "ADR")) (codes "ADD" ++ drop 3 w) (codes "add" ++ drop 3 w)
+    (both (codes "ADD") (drop 3 w) refl (all_drop is_in_line 3 w h)) (both (codes "add") (drop 3 w) refl (all_drop is_in_line 3 w h)))
+
 -- ## Lines
 
 spaced_inside : (m : Meanings) (kind : Operands) (ps : List Part) → AllInside ps → IsInside (spaced_operands m kind ps)
 spaced_inside m kind ps h =
     behind_inside (parts_text m (front_blanks ps)) (operands_text m kind (after_blanks ps)) (parts_text_inside m (front_blanks ps) (front_inside ps h)) (operands_inside m kind (after_blanks ps) (rest_inside ps h))
 
+operation_inside : (m : Meanings) (w : List ℕ) (ps : List Part) → Inside w → AllInside ps → IsInside (operation_text m w ps)
+unfolding operation_text
+operation_inside m w ps h k =
+    text_of (is_sum m w ps) (sum_line m w ps) (and_then (exchanged_text m w ps) (exchange_of m w ps))
+    (behind_inside (word_text (sum_word w)) (spaced_operands m Sums ps) (word_inside (sum_word w) (summed_inside w h)) (spaced_inside m Sums ps k))
+    (then_inside (exchanged_text m w ps) (exchange_of m w ps) (λ e.
+    behind_inside (word_text (word_with w e)) (spaced_operands m (kind_with w e) ps) (word_inside (word_with w e) (exchanged_inside w e h)) (spaced_inside m (kind_with w e) ps k)))
+
 instruction_inside : (m : Meanings) (w : List ℕ) (ps : List Part) → Inside w → AllInside ps → IsInside (instruction_text m w ps)
 unfolding is_in_line
 instruction_inside m w ps h k =
-    text_of (is_nop w) (nop_text ps) (cond (is_silent w) (Ok []) (cond (is_assert w) (assert_text m ps) (cond (is_directive w) (Err _) (and_then (exchanged_text m w ps) (exchange_of m w ps)))))
+    let known = cond (is_directive w) (Err _) (operation_text m w ps) in
+    let asserts = cond (is_assert w) (assert_text m ps) known in
+    text_of (is_nop w) (nop_text ps) (cond (is_silent w) (Ok []) asserts)
     (text_of (is_over (after_blanks ps)) (Ok (codes "MOV R0,R0")) (Err _) refl tt)
-    (text_of (is_silent w) (Ok []) (cond (is_assert w) (assert_text m ps) (cond (is_directive w) (Err _) (and_then (exchanged_text m w ps) (exchange_of m w ps)))) refl
-    (text_of (is_assert w) (assert_text m ps) (cond (is_directive w) (Err _) (and_then (exchanged_text m w ps) (exchange_of m w ps)))
+    (text_of (is_silent w) (Ok []) asserts refl
+    (text_of (is_assert w) (assert_text m ps) known
     (then_inside asserted (truth_of m ps) (λ holds. text_of holds (Ok []) (Err _) refl tt))
-    (text_of (is_directive w) (Err _) (and_then (exchanged_text m w ps) (exchange_of m w ps)) tt
-    (then_inside (exchanged_text m w ps) (exchange_of m w ps) (λ e.
-    behind_inside (word_text (word_with w e)) (spaced_operands m (kind_with w e) ps) (word_inside (word_with w e) (exchanged_inside w e h)) (spaced_inside m (kind_with w e) ps k))))))
+    (text_of (is_directive w) (Err _) (operation_text m w ps) tt (operation_inside m w ps h k))))
 
 word_line_inside : (m : Meanings) (ps : List Part) → AllInside ps → IsInside (word_line m ps)
 unfolding is_part_inside
@@ -320,11 +362,15 @@ plain_inside m (Run l ∷ ps) h =
     text_of (is_set m l) (Err _) (behind l (statement_text m ps)) tt (behind_inside l (statement_text m ps) a.0 (statement_inside m ps a.1))
 
 body_inside : (m : Meanings) (ps : List Part) → AllInside ps → IsInside (body_text m ps)
-body_inside m ps h = by_setting (setting_of ps)
+body_inside m ps h = by_line (map_line_of ps)
   where
     by_setting : (s : Option Setting) → IsInside (unset_text m s ps)
     by_setting (Some s) = refl
     by_setting None = plain_inside m ps h
+
+    by_line : (l : Option MapLine) → IsInside (unmapped_text m l ps)
+    by_line (Some l) = refl
+    by_line None = by_setting (setting_of ps)
 
 shown_inside : (plain text : List ℕ) → Inside plain → Inside text → Inside (shown_line plain text)
 unfolding is_in_line

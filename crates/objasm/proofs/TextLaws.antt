@@ -7,8 +7,8 @@ use Rattle.std.specs.Prelude.{Option}
 use Rattle.objasm.specs.Exchanges.{exchange_of}
 use Rattle.objasm.specs.Names.{Meanings, Told, mapped}
 use Rattle.objasm.specs.Parts.{Part}
-use Rattle.objasm.specs.PlainLines.{Text, assert_text, behind, instruction_text, joined, kind_with, spaced_operands, word_with}
-use Rattle.objasm.specs.Words.{is_assert, is_directive, is_nop, is_silent, word_text}
+use Rattle.objasm.specs.PlainLines.{Text, assert_text, behind, instruction_text, is_sum, joined, operation_text, kind_with, spaced_operands, word_with}
+use Rattle.objasm.specs.Words.{is_assert, is_nop, is_silent, word_text}
 use Rattle.objasm.specs.declared.exchanges.Flip.{Flip}
 use Rattle.objasm.specs.declared.faults.LineFault.{LineFault}
 
@@ -55,10 +55,11 @@ pub on_ok : {A P Q : Type 0} (r : Result A LineFault) → (P → Q) → OnOk r P
 on_ok (Ok a) f p = f p
 on_ok (Err fault) f p = tt
 
-pub instruction_put : (m : Meanings) (word : List ℕ) (ps : List Part) (e : Option Flip) (old mid new : List ℕ) → is_nop word ≡ false → is_silent word ≡ false → is_assert word ≡ false → is_directive word ≡ false → exchange_of m word ps ≡ Ok e
-    → mid ≡ old ++ word_text (word_with word e) → behind mid (spaced_operands m (kind_with word e) ps) ≡ Ok new → behind old (instruction_text m word ps) ≡ Ok new
-instruction_put m word ps e old mid new nop silent assert directive is put ok =
-    rw (nop, silent, assert, directive, is) (behind_front old mid (word_text (word_with word e)) (spaced_operands m (kind_with word e) ps) put ∙ ok)
+pub operation_put : (m : Meanings) (word : List ℕ) (ps : List Part) (e : Option Flip) (old mid new : List ℕ) → is_sum m word ps ≡ false → exchange_of m word ps ≡ Ok e
+    → mid ≡ old ++ word_text (word_with word e) → behind mid (spaced_operands m (kind_with word e) ps) ≡ Ok new → behind old (operation_text m word ps) ≡ Ok new
+unfolding operation_text
+operation_put m word ps e old mid new sum is put ok =
+    rw (sum, is) (behind_front old mid (word_text (word_with word e)) (spaced_operands m (kind_with word e) ps) put ∙ ok)
 
 pub assert_put : (m : Meanings) (word : List ℕ) (ps : List Part) (old : List ℕ) → is_nop word ≡ false → is_silent word ≡ false → is_assert word ≡ true → assert_text m ps ≡ Ok []
     → behind old (instruction_text m word ps) ≡ Ok old

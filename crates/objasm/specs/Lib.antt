@@ -7,6 +7,7 @@ pub mod Names
 pub mod Numerals
 pub mod Symbols
 pub mod Settings
+pub mod Maps
 pub mod Words
 pub mod Exchanges
 pub mod PlainLines

@@ -1,5 +1,6 @@
 -- The parts of a line: runs of letters, digits and `_`, and other bytes.
-use Rattle.std.specs.Prelude.{◌==◌, ◌||◌, ℕ, Bool, true, false, not, List, [], ◌∷◌, take, drop, if◌then◌else◌}
+use Rattle.std.specs.Prelude.{◌==◌, ◌||◌, ℕ, Bool, true, false, not, List, [], ◌∷◌, take, drop}
+use Rattle.std.specs.Prelude.{Option, Some, None, if◌then◌else◌}
 use Rattle.std.specs.List.{prefix_len}
 use Rattle.asm_text.specs.Pieces.{is_blank, is_name}
 use Rattle.objasm.specs.declared.token.Token.{Token}
@@ -44,9 +45,22 @@ abbrev pub goes_on : Part → Bool
 goes_on (Run r) = true
 goes_on (Byte b) = not (is_stop b)
 
+abbrev pub is_over : List Part → Bool
+is_over [] = true
+is_over (p ∷ ps) = false
+
+-- the run that parts are, but for blanks behind it
+abbrev pub lone_run : List Part → Option (List ℕ)
+lone_run (Run r ∷ ps) = if is_over (after_blanks ps) then Some r else None
+lone_run _ = None
+
 -- the parts up to the next stop
 abbrev pub field_len : List Part → ℕ
 field_len ps = prefix_len goes_on ps
 
 abbrev pub first_field : List Part → List Part
 first_field ps = take (field_len ps) ps
+
+-- the next stop and what follows it
+abbrev pub after_field : List Part → List Part
+after_field ps = drop (field_len ps) ps

@@ -1,24 +1,30 @@
 -- What stands in our grammar for a line of the dialect.
 use Rattle.std.specs.Prelude.{◌==◌, ◌&&◌, ◌-◌, ◌^◌, not, nat_lt, ℕ, Bool, true, false, List, [], ◌∷◌, ◌++◌}
 use Rattle.std.specs.Prelude.{decimal}
-use Rattle.std.specs.Prelude.{codes, Option, Some, None, is_none, Result, Ok, Err, if◌then◌else◌}
+use Rattle.std.specs.Prelude.{codes, Option, Some, None, is_none, is_some, Result, Ok, Err, if◌then◌else◌}
+use Rattle.std.specs.Option.{option_and_then}
 use Rattle.asm_text.specs.Numbers.{number_by, read_number}
 use Rattle.objasm.specs.Exchanges.{exchange_of, exchanged_word, flipped}
-use Rattle.objasm.specs.Names.{Meanings, and_then, is_set, mapped}
-use Rattle.objasm.specs.Parts.{Part, Run, Byte, after_blanks, first_field, front_blanks, is_stop}
+use Rattle.objasm.specs.Maps.{MapLine, map_line_of}
+use Rattle.objasm.specs.Names.{Meanings, address_named, and_then, is_set, mapped}
+use Rattle.objasm.specs.Parts.{Part, Run, Byte, after_blanks, after_field, first_field, front_blanks}
+use Rattle.objasm.specs.Parts.{is_over, is_stop, lone_run}
 use Rattle.objasm.specs.Settings.{Setting, setting_of, truth_of, value_of}
 use Rattle.objasm.specs.Symbols.{begins_number}
-use Rattle.objasm.specs.Words.{is_assert, is_directive, is_nop, is_silent, kind_of, word_text}
+use Rattle.objasm.specs.Words.{is_adr, is_assert, is_directive, is_nop, is_silent, kind_of, sum_word}
+use Rattle.objasm.specs.Words.{word_text}
 use Rattle.objasm.specs.declared.exchanges.Flip.{Flip}
 use Rattle.objasm.specs.declared.faults.LineFault.{LineFault}
 use Rattle.objasm.specs.declared.faults.LineFault.TheVariants.{AssertionFailed, BadOperand, NameTwice}
 use Rattle.objasm.specs.declared.faults.LineFault.TheVariants.{UnknownDirective}
+use Rattle.objasm.specs.declared.names.Address.{Address}
 use Rattle.objasm.specs.declared.plain_lines.Literal.{Literal}
 use Rattle.objasm.specs.declared.plain_lines.Literal.TheVariants.{Plain, Hex}
 use Rattle.objasm.specs.declared.plain_lines.Translation.{Translation}
-use Rattle.objasm.specs.declared.plain_lines.Translation.TheVariants.{Number, Offset, Changed, Value, Parts}
+use Rattle.objasm.specs.declared.plain_lines.Translation.TheVariants.{Number, Offset, Changed, Value, Place, Sum}
+use Rattle.objasm.specs.declared.plain_lines.Translation.TheVariants.{Parts}
 use Rattle.objasm.specs.declared.words.Operands.{Operands}
-use Rattle.objasm.specs.declared.words.Operands.TheVariants.{Values, Offsets, Exchanged, Others}
+use Rattle.objasm.specs.declared.words.Operands.TheVariants.{Values, Offsets, Exchanged, Sums, Others}
 
 -- a text, or why there is none
 abbrev pub Text : Type 0
@@ -54,10 +60,6 @@ parts_text m [] = []
 parts_text m (p ∷ ps) = part_text m p ++ parts_text m ps
 
 -- ## Numbers
-
-abbrev pub is_over : List Part → Bool
-is_over [] = true
-is_over (p ∷ ps) = false
 
 abbrev pub literal_text : Literal → List ℕ
 literal_text (Plain digits) = digits.now
@@ -97,9 +99,10 @@ offset_text ps n = if nat_lt n (2 ^ 31) then number_text ps n else 45 ∷ decima
 
 -- how what follows a stop is translated
 abbrev pub written : Operands → ℕ → Translation
-written Offsets stop = if stop == 35 then Offset else Parts
+written Offsets stop = if stop == 35 then Offset else if stop == 44 then Place else Parts
 written (Exchanged flip) stop = if stop == 35 then Changed flip else Parts
 written Values stop = if stop == 35 then Number else Value
+written Sums stop = if stop == 35 then Number else Sum
 written Others stop = if stop == 35 then Number else Parts
 
 abbrev pub is_label : Meanings → List ℕ → Bool
@@ -120,11 +123,30 @@ value_text m ps =
     if is_label_field m ps then Ok (parts_text m ps)
     else mapped (λ n. parts_text m (front_blanks ps) ++ number_text ps n) (value_of m ps)
 
+-- the address that a lone name of a map stands for
+abbrev pub address_in : Meanings → List Part → Option Address
+address_in m ps = option_and_then (address_named m) (lone_run (after_blanks ps))
+
+-- `[Rn,#offset]`
+abbrev pub place_text : Address → List ℕ
+place_text a = 91 ∷ (register_text a.base ++ (codes ",#" ++ (offset_text [] a.offset ++ 93 ∷ [])))
+
+-- `Rn,#offset`
+abbrev pub sum_text : Address → List ℕ
+sum_text a = register_text a.base ++ (codes ",#" ++ decimal a.offset)
+
+-- what stands for an address, behind the blanks, and for anything else its parts
+abbrev pub placed_text : (Address → List ℕ) → Meanings → Option Address → List Part → List ℕ
+placed_text shown m (Some a) ps = parts_text m (front_blanks ps) ++ shown a
+placed_text shown m None ps = parts_text m ps
+
 abbrev pub field_text : Meanings → Translation → List Part → Text
 field_text m Number ps = mapped (number_text ps) (value_of m ps)
 field_text m Offset ps = mapped (offset_text ps) (value_of m ps)
 field_text m (Changed flip) ps = mapped (λ n. decimal (flipped flip n)) (value_of m ps)
 field_text m Value ps = value_text m ps
+field_text m Place ps = Ok (placed_text place_text m (address_in m ps) ps)
+field_text m Sum ps = Ok (placed_text sum_text m (address_in m ps) ps)
 field_text m Parts ps = Ok (parts_text m ps)
 
 -- a stop, and what follows it up to the next
@@ -159,6 +181,18 @@ abbrev pub exchanged_text : Meanings → List ℕ → List Part → Option Flip 
 exchanged_text m word ps exchange =
     behind (word_text (word_with word exchange)) (spaced_operands m (kind_with word exchange) ps)
 
+-- what follows the first comma is the name of a map with a base register
+abbrev pub is_address : Meanings → List Part → Bool
+is_address m (Byte b ∷ ps) = b == 44 && is_some (address_in m (first_field ps))
+is_address m _ = false
+
+-- ADR of such a name is a sum
+abbrev pub is_sum : Meanings → List ℕ → List Part → Bool
+is_sum m word ps = is_adr word && is_address m (after_field ps)
+
+abbrev pub sum_line : Meanings → List ℕ → List Part → Text
+sum_line m word ps = behind (word_text (sum_word word)) (spaced_operands m Sums ps)
+
 abbrev pub nop_text : List Part → Text
 nop_text ps = if is_over (after_blanks ps) then Ok (codes "MOV R0,R0") else Err BadOperand
 
@@ -170,13 +204,18 @@ abbrev pub assert_text : Meanings → List Part → Text
 assert_text m ps = and_then asserted (truth_of m ps)
 
 -- a word and its operands, which are exchanged for others where the number fits only so
+unfoldable pub operation_text : Meanings → List ℕ → List Part → Text
+operation_text m word ps =
+    if is_sum m word ps then sum_line m word ps else and_then (exchanged_text m word ps) (exchange_of m word ps)
+
+-- a word of the processor or a directive, and what is behind it
 abbrev pub instruction_text : Meanings → List ℕ → List Part → Text
 instruction_text m word ps =
     if is_nop word then nop_text ps
     else if is_silent word then Ok []
     else if is_assert word then assert_text m ps
     else if is_directive word then Err UnknownDirective
-    else and_then (exchanged_text m word ps) (exchange_of m word ps)
+    else operation_text m word ps
 
 abbrev pub word_line : Meanings → List Part → Text
 word_line m [] = Ok []
@@ -196,6 +235,10 @@ abbrev pub unset_text : Meanings → Option Setting → List Part → Text
 unset_text m (Some s) ps = Ok []
 unset_text m None ps = plain_text m ps
 
--- a line that sets a name stands for nothing
+abbrev pub unmapped_text : Meanings → Option MapLine → List Part → Text
+unmapped_text m (Some line) ps = Ok []
+unmapped_text m None ps = unset_text m (setting_of ps) ps
+
+-- a line that sets a name or is of a map stands for nothing
 abbrev pub body_text : Meanings → List Part → Text
-body_text m ps = unset_text m (setting_of ps) ps
+body_text m ps = unmapped_text m (map_line_of ps) ps

@@ -89,16 +89,9 @@ abbrev pub set_by : Meanings → Option Setting → Result Meanings LineFault
 set_by m None = Ok m
 set_by m (Some s) = set_or_waits m s (setting_value m s)
 
--- the meanings after a line, when it is read first
-abbrev pub settled : Meanings → List Part → Result Meanings LineFault
-settled m ps = set_by m (setting_of ps)
-
+-- the same of a line that is read again: it sets the name that waited
 abbrev pub set_again : Meanings → Option Setting → Result Meanings LineFault
 set_again m None = Ok m
 set_again m (Some s) =
     if is_known m s.name then Ok m
     else mapped (λ n. with_meaning s.name s.kind n m) (and_then (allowed s.kind) (value_of m s.value))
-
--- the meanings after a line that is read again: it sets the name that waited
-abbrev pub settled_again : Meanings → List Part → Result Meanings LineFault
-settled_again m ps = set_again m (setting_of ps)

@@ -7,10 +7,10 @@ use Rattle.std.specs.List.{prefix_len, suffix_len}
 use Rattle.std.specs.Str.{bytes_eq}
 use Rattle.asm_text.specs.Pieces.{first_blank}
 use Rattle.asm_text.specs.Source.{lines_of}
+use Rattle.objasm.specs.Maps.{settled, settled_again}
 use Rattle.objasm.specs.Names.{Meanings, and_then, mapped, no_meanings}
 use Rattle.objasm.specs.Parts.{parts}
 use Rattle.objasm.specs.PlainLines.{Text, body_text}
-use Rattle.objasm.specs.Settings.{settled, settled_again}
 use Rattle.objasm.specs.declared.faults.LineFault.{LineFault}
 use Rattle.objasm.specs.declared.faults.LineFault.TheVariants as line
 use Rattle.objasm.specs.declared.source.DialectFault.{DialectFault}

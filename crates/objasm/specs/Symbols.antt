@@ -1,5 +1,5 @@
 -- How symbols are written: parts, of which a symbol has one or more.
-use Rattle.std.specs.Prelude.{◌==◌, ◌||◌, ℕ, Bool, false, List, [], ◌∷◌, codes, Option, Some, None}
+use Rattle.std.specs.Prelude.{◌==◌, ◌||◌, ℕ, Bool, false, List, [], ◌∷◌, codes, Option, Some, None, is_some}
 use Rattle.std.specs.Prelude.{Result, Ok, Err, if◌then◌else◌}
 use Rattle.std.specs.Char.{is_ascii_digit}
 use Rattle.std.specs.List.{cons_option, list_any}
@@ -11,6 +11,7 @@ use Rattle.objasm.specs.Numerals.{read_numeral}
 use Rattle.objasm.specs.Parts.{Part, Run, Byte}
 use Rattle.objasm.specs.declared.faults.LineFault.{LineFault}
 use Rattle.objasm.specs.declared.faults.LineFault.TheVariants.{BadExpression, BadNumber, NameMissing}
+use Rattle.objasm.specs.declared.faults.LineFault.TheVariants.{NotANumber}
 use Rattle.objasm.specs.declared.operators.Binary.TheVariants.{Times, Over, Mod, Shl, Shr, Rol, Ror, Plus}
 use Rattle.objasm.specs.declared.operators.Binary.TheVariants.{Minus}
 use Rattle.objasm.specs.declared.operators.Binary.TheVariants.{And, Or, Eor, Equal, Unequal, AtMost}
@@ -46,10 +47,14 @@ abbrev pub begins_number : List ℕ → Bool
 begins_number [] = false
 begins_number (b ∷ bs) = is_ascii_digit b
 
+-- why a name stands for no number: it has an address with a base register, or no line sets it
+abbrev pub no_number : Meanings → List ℕ → LineFault
+no_number m run = if is_some (m.bases run) then NotANumber else NameMissing
+
 -- the number that a run stands for: by its digits, or as the name of one
 abbrev pub number_of : Meanings → List ℕ → Result ℕ LineFault
 number_of m run =
-    if begins_number run then ok_or (read_numeral run) BadNumber else ok_or (m.constants run) NameMissing
+    if begins_number run then ok_or (read_numeral run) BadNumber else ok_or (m.constants run) (no_number m run)
 
 -- a symbol, if one is read to its end, and what has been read of the next
 abbrev pub Step : Type 0

@@ -1,5 +1,5 @@
 -- The words of ObjAsm that have a meaning of their own.
-use Rattle.std.specs.Prelude.{ℕ, ◌+◌, ◌==◌, ◌||◌, nat_lt, Bool, List, [], ◌∷◌, ◌++◌, codes, length, take}
+use Rattle.std.specs.Prelude.{ℕ, ◌+◌, ◌==◌, ◌||◌, nat_lt, Bool, false, List, [], ◌∷◌, ◌++◌, codes, length, take}
 use Rattle.std.specs.Prelude.{drop}
 use Rattle.std.specs.Prelude.{if◌then◌else◌}
 use Rattle.std.specs.List.{list_any}
@@ -27,15 +27,27 @@ abbrev pub directives : List (List ℕ)
 directives =
     codes "ADRL" ∷ codes "ALIGN" ∷ codes "AOF" ∷ codes "AOUT" ∷ codes "BIN" ∷ codes "CN" ∷ codes "CP"
     ∷ codes "DATA" ∷ codes "DCB" ∷ codes "DCFD" ∷ codes "DCFS" ∷ codes "DCW" ∷ codes "ELSE" ∷ codes "END"
-    ∷ codes "ENDIF" ∷ codes "EQU" ∷ codes "FN" ∷ codes "GBLA" ∷ codes "GBLL" ∷ codes "GBLS" ∷ codes "GET"
+    ∷ codes "ENDIF" ∷ codes "EQU" ∷ codes "FIELD" ∷ codes "FN" ∷ codes "GBLA" ∷ codes "GBLL" ∷ codes "GBLS" ∷ codes "GET"
     ∷ codes "GLOBAL" ∷ codes "IF" ∷ codes "IMPORT" ∷ codes "INCBIN" ∷ codes "INCLUDE" ∷ codes "INFO"
     ∷ codes "LCLA" ∷ codes "LCLL" ∷ codes "LCLS" ∷ codes "LEAF" ∷ codes "LIB" ∷ codes "LNK" ∷ codes "LTORG"
-    ∷ codes "MACRO" ∷ codes "MEND" ∷ codes "MEXIT" ∷ codes "NOFP" ∷ codes "RLIST" ∷ codes "RN"
+    ∷ codes "MACRO" ∷ codes "MAP" ∷ codes "MEND" ∷ codes "MEXIT" ∷ codes "NOFP" ∷ codes "RLIST" ∷ codes "RN"
     ∷ codes "ROUT" ∷ codes "SETA" ∷ codes "SETL" ∷ codes "SETS" ∷ codes "SPACE" ∷ codes "STRONG"
     ∷ codes "WEND" ∷ codes "WHILE" ∷ []
 
 abbrev pub is_directive : List ℕ → Bool
 is_directive word = is_one_of directives word
+
+abbrev pub is_adr : List ℕ → Bool
+is_adr word =
+    if nat_lt (length word) 3 then false
+    else bytes_eq (take 3 word) (codes "ADR") || bytes_eq (take 3 word) (codes "adr")
+
+-- ADD for ADR, and add for adr
+abbrev pub sum_word : List ℕ → List ℕ
+sum_word word =
+    if nat_lt (length word) 3 then word
+    else if bytes_eq (take 3 word) (codes "ADR") then codes "ADD" ++ drop 3 word
+    else codes "add" ++ drop 3 word
 
 abbrev pub is_nop : List ℕ → Bool
 is_nop word = bytes_eq word (codes "NOP") || bytes_eq word (codes "nop")

@@ -20,7 +20,8 @@ pub enum LineFault {
     /// A name that is set before, or the label of a line that is a name set.
     #[error("NameTwice")]
     NameTwice,
-    /// A name in an expression that no line sets, or in a line that sets a name none whose value is known.
+    /// A name in an expression that no line sets, or in a line that sets a name none whose value is known; in a
+    /// map none whose value is known above.
     #[error("NameMissing")]
     NameMissing,
     /// What stands for a number is no expression.
@@ -33,13 +34,13 @@ pub enum LineFault {
     /// values that it is not for.
     #[error("NoValue")]
     NoValue,
-    /// A register of a number above 15.
+    /// A register of a number above 15, or no register behind the comma of a map.
     #[error("BadRegister")]
     BadRegister,
     /// Operands behind a word that takes none.
     #[error("BadOperand")]
     BadOperand,
-    /// The value of a comparison where a number stands.
+    /// The value of a comparison where a number stands, or a name with a base register.
     #[error("NotANumber")]
     NotANumber,
     /// A number where the value of a comparison is wanted.

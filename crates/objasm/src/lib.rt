@@ -15,6 +15,7 @@ mod evaluation;
 mod exchanges;
 mod faults;
 mod law;
+mod maps;
 mod names;
 mod numbers;
 mod operators;

@@ -3,21 +3,27 @@
 ghost use Rattle.std.specs.Prelude.{◌≡◌, ◌++◌, [], OnOk, IfErr, Ok, decimal, map, option_map};
 ghost use Rattle.objasm.specs.Names.{Told, meanings_of};
 ghost use Rattle.objasm.specs.Parts.{part_of};
-ghost use Rattle.objasm.specs.PlainLines.{assert_text, behind, body_text, exchanged_text, field_text, hex_literal};
-ghost use Rattle.objasm.specs.PlainLines.{instruction_text, is_label, is_label_field, is_over, kind_with};
+ghost use Rattle.objasm.specs.PlainLines.{address_in, assert_text, behind, body_text, exchanged_text, field_text, hex_literal};
+ghost use Rattle.objasm.specs.PlainLines.{instruction_text, is_address, is_label, is_label_field, is_sum, kind_with};
 ghost use Rattle.objasm.specs.PlainLines.{literal_at, literal_of, literal_text, lone, nop_text, number_text};
-ghost use Rattle.objasm.specs.PlainLines.{offset_text, operands_text, part_text, parts_text, plain_text};
+ghost use Rattle.objasm.specs.PlainLines.{offset_text, operands_text, operation_text, part_text, parts_text, place_text, placed_text, plain_text};
 ghost use Rattle.objasm.specs.PlainLines.{register_text, run_text, spaced_operands, statement_text, stop_text, stops_text};
-ghost use Rattle.objasm.specs.PlainLines.{value_text, word_line, word_with, written, written_so};
-ghost use Rattle.objasm.specs.Words.{word_text};
+ghost use Rattle.objasm.specs.PlainLines.{sum_line, sum_text, unset_text, value_text, word_line, word_with, written, written_so};
+ghost use Rattle.objasm.specs.Settings.{setting_of};
+ghost use Rattle.objasm.specs.Words.{sum_word, word_text};
 
 use crate::exchanges::{Flip, exchange_of, exchanged_word, flipped, from};
 use crate::faults::LineFault;
-use crate::names::Names;
+use crate::maps::map_line_of;
+use crate::names::{Address, Names};
 use crate::settings::{setting_of, truth_of, value_of};
 use crate::symbols::begins_number;
-use crate::token::{Token, after_blanks, first_field, front_blanks, is_stop};
-use crate::words::{Operands, is_assert, is_directive, is_nop, is_silent, kind_of, put_word_text};
+use crate::token::{
+    Token, after_blanks, after_field, first_field, front_blanks, is_over, is_stop, lone_run,
+};
+use crate::words::{
+    Operands, is_adr, is_assert, is_directive, is_nop, is_silent, kind_of, put_word_text, sum_word,
+};
 use asm_text::{read_hex, read_number};
 use itoa::Buffer;
 use std::alloc::{AllocError, Global};
@@ -33,6 +39,10 @@ pub enum Translation {
     Changed(Flip),
     /// An expression or a label.
     Value,
+    /// The same as in `Parts`, or a name of a map, which stands for `[Rn,#offset]`.
+    Place,
+    /// The same as in `Parts`, or such a name, which stands for `Rn,#offset`.
+    Sum,
     /// Names of registers and numbers, and what else there is.
     Parts,
 }
@@ -59,17 +69,16 @@ fn written(kind: Operands, stop: u8) -> Translation
     } else {
         match kind {
             Operands::Values => Translation::Value,
+            Operands::Offsets => {
+                if stop == b',' {
+                    Translation::Place
+                } else {
+                    Translation::Parts
+                }
+            }
+            Operands::Sums => Translation::Sum,
             _ => Translation::Parts,
         }
-    }
-}
-
-fn is_over(tokens: &[Token<'_>]) -> bool
-    ensures { result ≡ is_over (map part_of tokens.now) }
-{
-    match tokens {
-        [] => true,
-        _ => false,
     }
 }
 
@@ -219,6 +228,65 @@ fn is_label_field(names: &Names, tokens: &[Token<'_>]) -> bool
     }
 }
 
+// The address that a lone name of a map stands for.
+fn address_in(names: &Names, tokens: &[Token<'_>]) -> Option<Address>
+    ensures { result ≡ address_in (meanings_of names.now) (map part_of tokens.now) }
+{
+    match lone_run(after_blanks(tokens)) {
+        Some(run) => names.address(run),
+        None => None,
+    }
+}
+
+fn put_address(out: &mut Vec<u8>, address: Address) -> Result<(), AllocError>
+    ensures { OnOk result (out.new.items ≡ out.old.items ++ place_text address) }
+{
+    out.push(b'[')?;
+    put_register(out, address.base)?;
+    out.extend_from_slice(b",#")?;
+    put_offset(out, &[], address.offset)?;
+    out.push(b']')?;
+    Ok(())
+}
+
+fn put_terms(out: &mut Vec<u8>, address: Address) -> Result<(), AllocError>
+    ensures { OnOk result (out.new.items ≡ out.old.items ++ sum_text address) }
+{
+    put_register(out, address.base)?;
+    out.extend_from_slice(b",#")?;
+    put_decimal(out, address.offset)
+}
+
+// An operand of LDR or STR.
+fn put_place(names: &Names, tokens: &[Token<'_>], out: &mut Vec<u8>) -> Result<(), AllocError>
+    ensures { OnOk result (out.new.items
+        ≡ out.old.items ++ placed_text place_text (meanings_of names.now)
+        (address_in (meanings_of names.now) (map part_of tokens.now)) (map part_of tokens.now)) }
+{
+    match address_in(names, tokens) {
+        Some(address) => {
+            put_parts(names, front_blanks(tokens), out)?;
+            put_address(out, address)
+        }
+        None => put_parts(names, tokens, out),
+    }
+}
+
+// An operand of ADR where it is a sum.
+fn put_sum(names: &Names, tokens: &[Token<'_>], out: &mut Vec<u8>) -> Result<(), AllocError>
+    ensures { OnOk result (out.new.items
+        ≡ out.old.items ++ placed_text sum_text (meanings_of names.now)
+        (address_in (meanings_of names.now) (map part_of tokens.now)) (map part_of tokens.now)) }
+{
+    match address_in(names, tokens) {
+        Some(address) => {
+            put_parts(names, front_blanks(tokens), out)?;
+            put_terms(out, address)
+        }
+        None => put_parts(names, tokens, out),
+    }
+}
+
 fn put_field(
     alloc: Global,
     names: &Names,
@@ -249,6 +317,14 @@ fn put_field(
             Ok(())
         }
         Translation::Value => put_value(alloc, names, tokens, out),
+        Translation::Place => {
+            put_place(names, tokens, out)?;
+            Ok(())
+        }
+        Translation::Sum => {
+            put_sum(names, tokens, out)?;
+            Ok(())
+        }
         Translation::Parts => {
             put_parts(names, tokens, out)?;
             Ok(())
@@ -415,6 +491,76 @@ fn put_word_operands(
     put_operands(alloc, names, kind, after_blanks(tokens), out)
 }
 
+// Whether a name of a map with a base register follows the comma.
+fn is_address(names: &Names, tokens: &[Token<'_>]) -> bool
+    ensures { result ≡ is_address (meanings_of names.now) (map part_of tokens.now) }
+{
+    match tokens {
+        [Token::Byte(b), rest @ ..] => {
+            if *b == b',' {
+                address_in(names, first_field(rest)).is_some()
+            } else {
+                false
+            }
+        }
+        _ => false,
+    }
+}
+
+// Whether a word is ADR of such a name.
+fn is_sum(names: &Names, word: &[u8], tokens: &[Token<'_>]) -> bool
+    ensures { result ≡ is_sum (meanings_of names.now) word.now (map part_of tokens.now) }
+{
+    is_adr(word) && is_address(names, after_field(tokens))
+}
+
+fn put_sum_word(alloc: Global, word: &[u8], out: &mut Vec<u8>) -> Result<(), AllocError>
+    ensures { OnOk result (out.new.items ≡ out.old.items ++ word_text (sum_word word.now)) }
+{
+    let sum = sum_word(alloc, word)?;
+    put_word_text(&sum, out)
+}
+
+fn put_sum_line(
+    alloc: Global,
+    names: &Names,
+    word: &[u8],
+    tokens: &[Token<'_>],
+    out: &mut Vec<u8>,
+) -> Result<(), LineFault>
+    ensures ok { OnOk result
+        (behind out.old.items (sum_line (meanings_of names.now) word.now (map part_of tokens.now))
+        ≡ Ok out.new.items) }
+    ensures fault { IfErr result
+        (λ fault. Told fault (sum_line (meanings_of names.now) word.now (map part_of tokens.now))) }
+{
+    put_sum_word(alloc, word, out)?;
+    put_word_operands(alloc, names, Operands::Sums, tokens, out)
+}
+
+// A word of the processor, and its operands.
+#[tactic(auto, unfolding(crate::specs::PlainLines::operation_text))]
+fn put_operation(
+    alloc: Global,
+    names: &Names,
+    word: &[u8],
+    tokens: &[Token<'_>],
+    out: &mut Vec<u8>,
+) -> Result<(), LineFault>
+    ensures ok { OnOk result
+        (behind out.old.items (operation_text (meanings_of names.now) word.now (map part_of tokens.now))
+        ≡ Ok out.new.items) }
+    ensures fault { IfErr result
+        (λ fault. Told fault (operation_text (meanings_of names.now) word.now (map part_of tokens.now))) }
+{
+    if is_sum(names, word, tokens) {
+        return put_sum_line(alloc, names, word, tokens, out);
+    }
+    let exchange = exchange_of(alloc, names, word, tokens)?;
+    put_word_with(alloc, word, exchange, out)?;
+    put_word_operands(alloc, names, kind_with(word, exchange), tokens, out)
+}
+
 fn put_instruction(
     alloc: Global,
     names: &Names,
@@ -440,9 +586,7 @@ fn put_instruction(
     if is_directive(word) {
         return Err(LineFault::UnknownDirective);
     }
-    let exchange = exchange_of(alloc, names, word, tokens)?;
-    put_word_with(alloc, word, exchange, out)?;
-    put_word_operands(alloc, names, kind_with(word, exchange), tokens, out)
+    put_operation(alloc, names, word, tokens, out)
 }
 
 fn put_word(
@@ -506,7 +650,27 @@ fn put_plain(
     }
 }
 
-/// Puts what stands for a line without its comment: nothing where it sets a name.
+// A line that is of no map.
+fn put_unmapped(
+    alloc: Global,
+    names: &Names,
+    tokens: &[Token<'_>],
+    out: &mut Vec<u8>,
+) -> Result<(), LineFault>
+    ensures ok { OnOk result
+        (behind out.old.items
+        (unset_text (meanings_of names.now) (setting_of (map part_of tokens.now)) (map part_of tokens.now))
+        ≡ Ok out.new.items) }
+    ensures fault { IfErr result (λ fault. Told fault
+        (unset_text (meanings_of names.now) (setting_of (map part_of tokens.now)) (map part_of tokens.now))) }
+{
+    match setting_of(tokens) {
+        Some(_) => Ok(()),
+        None => put_plain(alloc, names, tokens, out),
+    }
+}
+
+/// Puts what stands for a line without its comment: nothing where it sets a name or is of a map.
 pub(crate) fn put_body(
     alloc: Global,
     names: &Names,
@@ -519,8 +683,8 @@ pub(crate) fn put_body(
     ensures fault { IfErr result
         (λ fault. Told fault (body_text (meanings_of names.now) (map part_of tokens.now))) }
 {
-    match setting_of(tokens) {
+    match map_line_of(tokens) {
         Some(_) => Ok(()),
-        None => put_plain(alloc, names, tokens, out),
+        None => put_unmapped(alloc, names, tokens, out),
     }
 }

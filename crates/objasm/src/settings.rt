@@ -4,7 +4,7 @@ ghost use Rattle.std.specs.Prelude.{◌≡◌, ◌≤◌, IfOk, IfErr, OnOk, Ok,
 ghost use Rattle.objasm.specs.Names.{Told, meanings_of};
 ghost use Rattle.objasm.specs.Parts.{after_blanks, blank_len, is_blank_part, part_of};
 ghost use Rattle.objasm.specs.Settings.{is_no_name, kind_named, outcome, set_as, setting_of, setting_value};
-ghost use Rattle.objasm.specs.Settings.{allowed, settled, settled_again, setting_view, truth, truth_of};
+ghost use Rattle.objasm.specs.Settings.{allowed, set_again, set_by, setting_view, truth, truth_of};
 ghost use Rattle.objasm.specs.Settings.{value_of};
 
 use crate::evaluation::evaluated;
@@ -119,8 +119,8 @@ pub(crate) fn setting_of<'a, 'b>(tokens: &'b [Token<'a>]) -> Option<Setting<'a, 
     }
 }
 
-// Whether a name cannot be set.
-fn is_no_name(name: &[u8]) -> bool
+/// Whether a name cannot be set.
+pub(crate) fn is_no_name(name: &[u8]) -> bool
     ensures { result ≡ is_no_name name.now }
 {
     begins_number(name) || register_of(name).is_some()
@@ -160,15 +160,15 @@ fn setting_value(alloc: Global, names: &Names, setting: Setting<'_, '_>) -> Resu
 }
 
 /// Sets what a line sets, where the names in it are known, and else notes its name.
-pub(crate) fn settle(
+pub(crate) fn set_name(
     alloc: Global,
     names: &mut Names,
     tokens: &[Token<'_>],
 ) -> Result<(), LineFault>
     ensures ok { OnOk result
-        (settled (meanings_of names.old) (map part_of tokens.now) ≡ Ok (meanings_of names.new)) }
+        (set_by (meanings_of names.old) (setting_of (map part_of tokens.now)) ≡ Ok (meanings_of names.new)) }
     ensures fault { IfErr result
-        (λ fault. Told fault (settled (meanings_of names.old) (map part_of tokens.now))) }
+        (λ fault. Told fault (set_by (meanings_of names.old) (setting_of (map part_of tokens.now)))) }
 {
     let Some(setting) = setting_of(tokens) else {
         return Ok(());
@@ -181,15 +181,15 @@ pub(crate) fn settle(
 }
 
 /// Sets what a line sets whose name was noted.
-pub(crate) fn settle_again(
+pub(crate) fn set_name_again(
     alloc: Global,
     names: &mut Names,
     tokens: &[Token<'_>],
 ) -> Result<(), LineFault>
     ensures ok { OnOk result
-        (settled_again (meanings_of names.old) (map part_of tokens.now) ≡ Ok (meanings_of names.new)) }
+        (set_again (meanings_of names.old) (setting_of (map part_of tokens.now)) ≡ Ok (meanings_of names.new)) }
     ensures fault { IfErr result
-        (λ fault. Told fault (settled_again (meanings_of names.old) (map part_of tokens.now))) }
+        (λ fault. Told fault (set_again (meanings_of names.old) (setting_of (map part_of tokens.now)))) }
 {
     let Some(setting) = setting_of(tokens) else {
         return Ok(());

@@ -11,9 +11,9 @@ ghost use Rattle.objasm.specs.Source.{stripped, translated, trimmed};
 ghost use Rattle.objasm.specs.declared.source.DialectFault.TheVariants.{Memory};
 
 use crate::faults::LineFault;
+use crate::maps::{settle, settle_again};
 use crate::names::Names;
 use crate::plain_lines::put_body;
-use crate::settings::{settle, settle_again};
 use crate::token::tokens;
 use asm_text::{first_line, is_blank};
 use std::alloc::{AllocError, Global};

@@ -3,7 +3,7 @@ ghost use Rattle.std.specs.List.{cons_option};
 ghost use Rattle.objasm.specs.Names.{Told, meanings_of};
 ghost use Rattle.objasm.specs.Parts.{part_of};
 ghost use Rattle.objasm.specs.Symbols.{after_byte, after_greater, after_less, after_run, at_last};
-ghost use Rattle.objasm.specs.Symbols.{begins_number, goes_on, number_of, operator_named, quoted};
+ghost use Rattle.objasm.specs.Symbols.{begins_number, goes_on, no_number, number_of, operator_named, quoted};
 ghost use Rattle.objasm.specs.Symbols.{reading_step, sign, sign_or, symbols_in};
 ghost use Rattle.objasm.specs.declared.symbols.Reading.TheVariants.{Ready};
 
@@ -90,13 +90,24 @@ pub(crate) fn begins_number(run: &[u8]) -> bool
     }
 }
 
+// Why a name stands for no number.
+fn no_number(names: &Names, run: &[u8]) -> LineFault
+    ensures { result ≡ no_number (meanings_of names.now) run.now }
+{
+    if names.bases.get(run).is_some() {
+        LineFault::NotANumber
+    } else {
+        LineFault::NameMissing
+    }
+}
+
 fn number_of(names: &Names, run: &[u8]) -> Result<u32, LineFault>
     ensures { result ≡ number_of (meanings_of names.now) run.now }
 {
     if begins_number(run) {
         return read_numeral(run).ok_or(LineFault::BadNumber);
     }
-    names.constants.get(run).ok_or(LineFault::NameMissing)
+    names.constants.get(run).ok_or(no_number(names, run))
 }
 
 fn quoted(run: &[u8]) -> Result<Step, LineFault>

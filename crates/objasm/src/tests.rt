@@ -2,7 +2,7 @@ use crate::faults::LineFault;
 use crate::source::{DialectFault, plain_source};
 
 // Texts of the dialect, and what stands for them.
-const TEXTS: [(&[u8], &[u8]); 18] = [
+const TEXTS: [(&[u8], &[u8]); 20] = [
     (
         b"a EQU 1\n b\n MOV R0,#a+2*3\n",
         b" ; a EQU 1\n b\n MOV R0,#7 ;  MOV R0,#a+2*3\n",
@@ -71,11 +71,19 @@ const TEXTS: [(&[u8], &[u8]); 18] = [
         b" TTL Card\n AREA |Code|, CODE, READONLY\n ENTRY\nn EQU 2\n ASSERT n<4 :LAND: (n:SHL:1=4)\n ASSERT :LNOT:(n>=3)\nl KEEP\n MOV R0,#n\n END\nn EQU 3\n\n GARBAGE,\n",
         b" ;  TTL Card\n ;  AREA |Code|, CODE, READONLY\n ;  ENTRY\n ; n EQU 2\n ;  ASSERT n<4 :LAND: (n:SHL:1=4)\n ;  ASSERT :LNOT:(n>=3)\nl ; l KEEP\n MOV R0,#2 ;  MOV R0,#n\n ;  END\n ; n EQU 3\n\n ;  GARBAGE,\n",
     ),
+    (
+        b" ^ 4\na # 8\n # 2*2\nb FIELD 1\n MOV R0,#a\n DCD b\n",
+        b" ;  ^ 4\n ; a # 8\n ;  # 2*2\n ; b FIELD 1\n MOV R0,#4 ;  MOV R0,#a\n DCD 16 ;  DCD b\n",
+    ),
+    (
+        b"w RN 12\n ^ 0-4,w\nx # 4\ny # 8\n LDR R0,x\n STRB R1, y ; y\n ADRNE R2,y\n LDR R3,l\nl ADR R4,l\n MAP 8,r1\nz # 0\n adr r0,z\n",
+        b" ; w RN 12\n ;  ^ 0-4,w\n ; x # 4\n ; y # 8\n LDR R0,[R12,#-4] ;  LDR R0,x\n STRB R1, [R12,#0] ;  STRB R1, y ; y\n ADDNE R2,R12,#0 ;  ADRNE R2,y\n LDR R3,l\nl ADR R4,l\n ;  MAP 8,r1\n ; z # 0\n add r0,R1,#8 ;  adr r0,z\n",
+    ),
     (b"", b""),
 ];
 
 // Texts that are refused.
-const REFUSED: [(&[u8], LineFault, usize); 27] = [
+const REFUSED: [(&[u8], LineFault, usize); 34] = [
     (b"\n NOP R0\n", LineFault::BadOperand, 2),
     (b" MOV R0,#1\n LTORG\n", LineFault::UnknownDirective, 2),
     (b" = 1,2\n", LineFault::UnknownDirective, 1),
@@ -103,6 +111,13 @@ const REFUSED: [(&[u8], LineFault, usize); 27] = [
     (b" MOV R0,#2_12\n", LineFault::BadNumber, 1),
     (b" MOV R0,#(1\n", LineFault::BadExpression, 1),
     (b"a EQU 1\na MOV R0,R1\n", LineFault::NameTwice, 2),
+    (b" ^ 0,w\nw RN 12\n", LineFault::BadRegister, 1),
+    (b" ^ 0,\n", LineFault::BadRegister, 1),
+    (b" ^ n\nn EQU 4\n", LineFault::NameMissing, 1),
+    (b"a # 4\na EQU 1\n", LineFault::NameTwice, 2),
+    (b"1a # 4\n", LineFault::BadName, 1),
+    (b" ^ 0,R1\na # 4\n MOV R0,#a\n", LineFault::NotANumber, 3),
+    (b" ^ 0!\n", LineFault::BadExpression, 1),
 ];
 
 #[test]

@@ -1,7 +1,8 @@
-ghost use Rattle.std.specs.Prelude.{◌≡◌, ◌∷◌, ◌<◌, ◌≤◌, [], length, map, drop, MatchOption, IfOk};
+ghost use Rattle.std.specs.Prelude.{◌≡◌, ◌∷◌, ◌<◌, ◌≤◌, [], length, map, drop, MatchOption, IfOk, option_map};
 ghost use Rattle.std.specs.List.{prefix_len};
 ghost use Rattle.asm_text.specs.Pieces.{is_name};
-ghost use Rattle.objasm.specs.Parts.{after_blanks, blank_len, field_len, first_field, front_blanks};
+ghost use Rattle.objasm.specs.Parts.{after_blanks, after_field, blank_len, field_len, first_field};
+ghost use Rattle.objasm.specs.Parts.{front_blanks, is_over, lone_run};
 ghost use Rattle.objasm.specs.Parts.{goes_on, is_blank_part, is_stop, part_of, parts};
 
 use asm_text::is_blank;
@@ -144,4 +145,37 @@ pub(crate) fn first_field<'a, 'b>(tokens: &'b [Token<'a>]) -> &'b [Token<'a>]
     ensures { map part_of result.now ≡ first_field (map part_of tokens.now) }
 {
     &tokens[..field_len(tokens)]
+}
+
+/// The next stop, and the parts behind it.
+pub(crate) fn after_field<'a, 'b>(tokens: &'b [Token<'a>]) -> &'b [Token<'a>]
+    ensures { map part_of result.now ≡ after_field (map part_of tokens.now) }
+{
+    &tokens[field_len(tokens)..]
+}
+
+/// Whether no part is left.
+pub(crate) fn is_over(tokens: &[Token<'_>]) -> bool
+    ensures { result ≡ is_over (map part_of tokens.now) }
+{
+    match tokens {
+        [] => true,
+        _ => false,
+    }
+}
+
+/// The run that parts are, but for blanks behind it.
+pub(crate) fn lone_run<'a>(tokens: &[Token<'a>]) -> Option<&'a [u8]>
+    ensures { option_map (λ run. run.now) result ≡ lone_run (map part_of tokens.now) }
+{
+    match tokens {
+        [Token::Run(run), rest @ ..] => {
+            if is_over(after_blanks(rest)) {
+                Some(run)
+            } else {
+                None
+            }
+        }
+        _ => None,
+    }
 }

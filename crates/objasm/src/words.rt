@@ -1,11 +1,11 @@
 //! The words of ObjAsm that have a meaning of their own.
 
-ghost use Rattle.std.specs.Prelude.{◌≡◌, ◌++◌, OnOk, map};
-ghost use Rattle.objasm.specs.Words.{cond_place, is_assert, is_directive, is_nop, is_one_of, is_silent};
-ghost use Rattle.objasm.specs.Words.{kind_of, known_cond, word_text};
+ghost use Rattle.std.specs.Prelude.{◌≡◌, ◌++◌, IfOk, OnOk, map};
+ghost use Rattle.objasm.specs.Words.{cond_place, is_adr, is_assert, is_directive, is_nop, is_one_of, is_silent};
+ghost use Rattle.objasm.specs.Words.{kind_of, known_cond, sum_word, word_text};
 
 use crate::exchanges::Flip;
-use std::alloc::AllocError;
+use std::alloc::{AllocError, Global};
 
 /// What the operands of a word are.
 #[derive(Clone, Copy)]
@@ -16,6 +16,8 @@ pub enum Operands {
     Offsets,
     /// Those of a word that is exchanged, whose number is changed.
     Exchanged(Flip),
+    /// Those of ADR where it is a sum: the name of a map stands for a register and a number.
+    Sums,
     /// Any other.
     Others,
 }
@@ -29,12 +31,12 @@ const SILENT: [&[u8]; 7] = [
     b"AREA", b"ENTRY", b"EXPORT", b"KEEP", b"OPT", b"SUBT", b"TTL",
 ];
 
-const DIRECTIVES: [&[u8]; 48] = [
+const DIRECTIVES: [&[u8]; 50] = [
     b"ADRL", b"ALIGN", b"AOF", b"AOUT", b"BIN", b"CN", b"CP", b"DATA", b"DCB", b"DCFD", b"DCFS",
-    b"DCW", b"ELSE", b"END", b"ENDIF", b"EQU", b"FN", b"GBLA", b"GBLL", b"GBLS", b"GET", b"GLOBAL",
-    b"IF", b"IMPORT", b"INCBIN", b"INCLUDE", b"INFO", b"LCLA", b"LCLL", b"LCLS", b"LEAF", b"LIB",
-    b"LNK", b"LTORG", b"MACRO", b"MEND", b"MEXIT", b"NOFP", b"RLIST", b"RN", b"ROUT", b"SETA",
-    b"SETL", b"SETS", b"SPACE", b"STRONG", b"WEND", b"WHILE",
+    b"DCW", b"ELSE", b"END", b"ENDIF", b"EQU", b"FIELD", b"FN", b"GBLA", b"GBLL", b"GBLS", b"GET",
+    b"GLOBAL", b"IF", b"IMPORT", b"INCBIN", b"INCLUDE", b"INFO", b"LCLA", b"LCLL", b"LCLS",
+    b"LEAF", b"LIB", b"LNK", b"LTORG", b"MACRO", b"MAP", b"MEND", b"MEXIT", b"NOFP", b"RLIST",
+    b"RN", b"ROUT", b"SETA", b"SETL", b"SETS", b"SPACE", b"STRONG", b"WEND", b"WHILE",
 ];
 
 /// Whether a word is one of those.
@@ -113,6 +115,34 @@ fn cond_place(len: usize) -> usize
         4 => 2,
         _ => 3,
     }
+}
+
+/// Whether a word is ADR with any condition.
+pub(crate) fn is_adr(word: &[u8]) -> bool
+    ensures { result ≡ is_adr word.now }
+{
+    if word.len() < 3 {
+        return false;
+    }
+    let head = &word[..3];
+    head == b"ADR".as_slice() || head == b"adr".as_slice()
+}
+
+/// ADD with the condition of an ADR.
+pub(crate) fn sum_word(alloc: Global, word: &[u8]) -> Result<Vec<u8>, AllocError>
+    ensures { IfOk result (λ sum. sum.items ≡ sum_word word.now) }
+{
+    if word.len() < 3 {
+        return Vec::from_slice(alloc, word);
+    }
+    let (head, rest) = word.split_at(3);
+    let mut sum = if head == b"ADR".as_slice() {
+        Vec::from_slice(alloc, b"ADD")?
+    } else {
+        Vec::from_slice(alloc, b"add")?
+    };
+    sum.extend_from_slice(rest)?;
+    Ok(sum)
 }
 
 /// Whether a word is NOP.

@@ -1,0 +1,2 @@
+a EQU 4
+b EQU {VAR}

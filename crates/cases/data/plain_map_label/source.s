@@ -1,0 +1,2 @@
+a FIELD 4
+a MOV R0,R1
