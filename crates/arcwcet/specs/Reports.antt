@@ -1,6 +1,6 @@
 -- What a command prints of the bytes of its files, and why it refuses them: a line for each command.
-use Rattle.std.specs.Prelude.{◌≡◌, ℕ, Bool, true, false, List, [], codes, drop, Option, Some, None, Result, Ok}
-use Rattle.std.specs.Prelude.{Err, if◌then◌else◌, option_map, unwrap_or}
+use Rattle.std.specs.Prelude.{◌≡◌, ℕ, Bool, true, false, List, [], codes, drop, Option, Some, None, Result}
+use Rattle.std.specs.Prelude.{Ok, Err, if◌then◌else◌, option_map, unwrap_or}
 use Rattle.std.specs.List.{slice_get}
 use Rattle.std.specs.Option.{option_map_or}
 use Rattle.bus_ticks.specs.declared.profile.Profile.{Profile}
@@ -187,7 +187,8 @@ module _ (asked : Asked) (i : Inputs) (typed : List ℕ) where
   report_by command.DraftOn =
       unpriced (IsDraftOnReport i.source i.second) (IsDraftOnRefused i.source i.second)
   report_by command.Run =
-      judged i.profile (IsMachineReport ShowsRegisters lines_end i.source i.second) (IsRunRefused i.source i.second)
+      judged i.profile (IsMachineReport ShowsRegisters lines_end i.source i.second)
+      (IsRunRefused i.source i.second)
   report_by command.RunTo =
       judged i.profile (IsRunToReport ShowsRegisters lines_end i.source i.second asked.word)
       (IsRunToRefused i.source i.second asked.word)

@@ -23,8 +23,8 @@ ghost use Rattle.arcwcet.specs.Facts.{facts_file};
 ghost use Rattle.arcwcet.specs.Kept.{inputs_lent};
 ghost use Rattle.arcwcet.specs.Reports.{IsDrawn, answered, bursts_of, by_facts, extent_of, fiq_asked_in};
 ghost use Rattle.arcwcet.specs.Reports.{fiq_files, fiq_source_in, form_of, justified, priced};
-ghost use Rattle.arcwcet.specs.Reports.{question_in, rate_of};
-ghost use Rattle.arcwcet.specs.Reports.{report_of, trace_end, trace_shows, vectors_report, version_line, version_report};
+ghost use Rattle.arcwcet.specs.Reports.{question_in, rate_of, report_of, trace_end, trace_shows};
+ghost use Rattle.arcwcet.specs.Reports.{vectors_report, version_line, version_report};
 ghost use Rattle.arcwcet.specs.Run.{PrintsReport};
 ghost use Rattle.sources.specs.File.{file_of};
 

@@ -211,9 +211,9 @@ arcwcet_command = with_commands arcwcet_top usages
 
 -- a command; whether to print what shows the reason of a refusal, what is being done, the bound of each
 -- destination alone, first starts, and each row of a table; whether of the files of `respond` the first
--- behind the second are FIQ's statement and its source; whether to draw the path alone, and whether to print a
--- page in place of a drawing, and lines of JSON; the dialect of sources, if it is named; the names of files, the cycle profile's apart, and of `import` their addresses, and what its option says of one; a word that names no file to be
--- read; and numbers
+-- behind the second are FIQ's statement and its source; whether to draw the path alone, a page in place of
+-- a drawing, and lines of JSON; the dialect of sources, if it is named; the names of files, but for the
+-- profile's, their addresses of `import`, and its option's; a word that names no file to be read; and numbers
 pub record Asked : Type 0 where
   pub command : Command
   pub why : Bool

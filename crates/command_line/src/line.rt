@@ -27,8 +27,8 @@ pub enum Command {
     Trace,
     /// The same of the run that ends before the instruction at [`Request::word`], a label or an address.
     TraceTo,
-    /// So many test vectors as [`CommandNumbers::vectors`] says, by the seed [`CommandNumbers::seed`]. It reads no
-    /// file.
+    /// So many test vectors as [`CommandNumbers::vectors`] says, by the seed [`CommandNumbers::seed`]. It
+    /// reads no file.
     Vectors,
     /// A session of the debugger on that machine, by the commands on standard input.
     Debug,

@@ -113,7 +113,7 @@ fn add_fiq_source<'a>(request: &mut Request<'a>, name: &'a str) -> Result<(), Al
     Ok(())
 }
 
-// The name of the file in a word, and its address: in front of the first `@` and behind it; or the whole word.
+// The name of the file in a word and its address: in front of the first `@` and behind it; or all of it.
 fn name_and_place(word: &str) -> (&str, Option<u32>)
     ensures name { result.0.now ≡ name_in word.now }
     ensures place { result.1 ≡ place_in word.now }
@@ -323,9 +323,9 @@ fn is_known(dialect: Option<&str>) -> bool
     }
 }
 
-// Whether what is asked may be: a dialect that is named is known, the image of `asm` is no file that it reads,
-// `import` has an address for each of its files and writes over none, `visits` has a number or a period, `respond` has all or nothing of FIQ, and no option that has no effect
-// stands beside the certificate of a verdict.
+// Whether what is asked may be: a dialect that is named is known, the image of `asm` or `import` is no file
+// that it reads, and the latter have addresses, `visits` has a number or a period, `respond` has all or
+// nothing of FIQ, and no option that has no effect stands beside the certificate of a verdict.
 fn is_allowed(request: &Request<'_>) -> bool
     ensures { result ≡ is_allowed (asked_of request.now) }
 {
@@ -493,8 +493,8 @@ fn version<'a>(alloc: Global) -> Request<'a>
 /// # Errors
 ///
 /// Where the words ask for nothing: `Usage` with the command-line crate's own refusal, or its help;
-/// `SourceReplaced` where `asm` would write the image over its source; `ImportParts` where `import` has a file
-/// without an address, or `--at` with several, or would write over one; `VisitsOrPeriod` where `visits` has
+/// `SourceReplaced` where `asm` would write the image over its source; `ImportParts` where a file of `import`
+/// has no address, or `--at` has several, or it would write over one; `VisitsOrPeriod` where `visits` has
 /// neither a number of visits nor a period, or both, or FIQ's wait beside a number; `FiqOptions` where
 /// `respond` has FIQ's statement without a period or beside bursts, or else an option of FIQ's;
 /// `OptionBesideCertificate` where `explain` has a certificate and an option for explanations. `Memory`: an
