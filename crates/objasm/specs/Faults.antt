@@ -3,7 +3,8 @@ use Rattle.std.specs.Prelude.{ℕ, List, codes}
 use Rattle.objasm.specs.declared.faults.LineFault.{LineFault}
 use Rattle.objasm.specs.declared.faults.LineFault.TheVariants.{Memory, UnknownDirective, BadName, NameTwice}
 use Rattle.objasm.specs.declared.faults.LineFault.TheVariants.{NameMissing, BadExpression, BadNumber}
-use Rattle.objasm.specs.declared.faults.LineFault.TheVariants.{NoValue, BadRegister, BadOperand, NotANumber, NotLogical}
+use Rattle.objasm.specs.declared.faults.LineFault.TheVariants.{NoValue, BadRegister, BadOperand, NotANumber}
+use Rattle.objasm.specs.declared.faults.LineFault.TheVariants.{NotLogical}
 use Rattle.objasm.specs.declared.faults.LineFault.TheVariants.{AssertionFailed}
 
 abbrev pub name : LineFault → List ℕ

@@ -20,8 +20,8 @@ pub enum LineFault {
     /// A name that is set before, or the label of a line that is a name set.
     #[error("NameTwice")]
     NameTwice,
-    /// A name in an expression that no line sets, or in a line that sets a name none whose value is known; in a
-    /// map none whose value is known above.
+    /// A name in an expression that no line sets, or in a line that sets a name none whose value is known; in
+    /// a map none whose value is known above.
     #[error("NameMissing")]
     NameMissing,
     /// What stands for a number is no expression.
