@@ -1,4 +1,4 @@
-use Rattle.std.proofs.Common.{◌∙◌, Bool, List, Option, ℕ, ap, ap₂, option_map}
+use Rattle.std.proofs.Common.{◌∙◌, Bool, ap, ap₂, option_map}
 use Rattle.std.specs.Prelude.{◌&&◌, not}
 use Rattle.command_line.specs.Line.{are_placed}
 use Rattle.command_line.proofs.RowLaws.{among_names, among_names_of}
