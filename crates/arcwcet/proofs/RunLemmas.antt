@@ -337,12 +337,16 @@ import_exit (import_fault.Overlap a) = by_other (λ e. cc e) refl
 import_exit (import_fault.TooLong a) = by_other (λ e. cc e) refl
 
 -- of the files but for a cycle profile's
-pub import_of : (asked : Asked) (files others : Texts) → others ≡ others_in asked.profile files → (bytes report : List ℕ) → IsImported (placed asked.places others) bytes report → IsImported (parts_of asked files) bytes report
-import_of asked files others split bytes report = subst (λ (o : Texts). IsImported (placed asked.places o) bytes report) split
+module _ (asked : Asked) (files others : Texts) (places : List (Option ℕ)) (same : places ≡ asked.places) (split : others ≡ others_in asked.profile files) where
+  pub import_of : (bytes report : List ℕ) → IsImported (placed places others) bytes report → IsImported (parts_of asked files) bytes report
+  import_of bytes report is =
+      subst (λ (o : Texts). IsImported (placed asked.places o) bytes report) split
+      (subst (λ (p : List (Option ℕ)). IsImported (placed p others) bytes report) same is)
 
-pub import_refused_of : (asked : Asked) (files others : Texts) → others ≡ others_in asked.profile files → (fault : ImportFault)
-    → (fault ≡ import_fault.Memory) ⊎ (imported (placed asked.places others) ≡ Err fault) → (fault ≡ import_fault.Memory) ⊎ (imported (parts_of asked files) ≡ Err fault)
-import_refused_of asked files others split fault = subst (λ (o : Texts). (fault ≡ import_fault.Memory) ⊎ (imported (placed asked.places o) ≡ Err fault)) split
+  pub import_refused_of : (fault : ImportFault) → (fault ≡ import_fault.Memory) ⊎ (imported (placed places others) ≡ Err fault) → (fault ≡ import_fault.Memory) ⊎ (imported (parts_of asked files) ≡ Err fault)
+  import_refused_of fault holds =
+      subst (λ (o : Texts). (fault ≡ import_fault.Memory) ⊎ (imported (placed asked.places o) ≡ Err fault)) split
+      (subst (λ (p : List (Option ℕ)). (fault ≡ import_fault.Memory) ⊎ (imported (placed p others) ≡ Err fault)) same holds)
 
 module _ {S O : Type 0} (reads : Reading S) (writes : Writing S) (taken : O → Option (List ℕ)) (failures : O → ℕ) (Said : Saying) (asked : Asked) (old new : S) where
   abbrev pub IsImportImage : Imaging
