@@ -85,9 +85,9 @@ struct Means<'p, 'f> {
 // their words, which rows of its table are printed, and the bursts that are added to its cost, by the
 // profile's price of one.
 #[derive(Clone, Copy)]
-struct BurstWalk<'w, 'a, 'p, 's> {
+struct BurstWalk<'w, 'a, 't, 'p, 's> {
+    starts: WorstStarts<'t>,
     counted: CountedWalk<'w, 'a>,
-    starts: WorstStarts<'w>,
     lines: &'w BTreeMap<u32, SourceLine<'s>>,
     rows: RowForm,
     profile: &'p Profile,
@@ -114,7 +114,7 @@ fn is_enough(at_most: Option<u64>, bound: u64) -> bool
 fn text_of(
     alloc: Global,
     read: &Source<'_>,
-    walk: BurstWalk<'_, '_, '_, '_>,
+    walk: BurstWalk<'_, '_, '_, '_, '_>,
 ) -> Result<Vec<u8>, AllocError>
     requires image { walk.counted.handler.now.image.now ≡ read.now.image }
     requires tree { HasItsTree walk.counted.handler.now }
@@ -181,14 +181,14 @@ fn explanation_of(
     let lines = read.lines(alloc)?;
     let counts = edge_counts(alloc, &handler.graph, &found.walk)?;
     let walk = BurstWalk {
+        starts: WorstStarts {
+            latest: &starts,
+            first: means.first,
+        },
         counted: CountedWalk {
             handler,
             longest: &found,
             counts: &counts,
-        },
-        starts: WorstStarts {
-            latest: &starts,
-            first: means.first,
         },
         lines: &lines,
         rows: means.form.rows,

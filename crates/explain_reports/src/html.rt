@@ -55,14 +55,14 @@ fn page_of(
     totals_are_the_bound();
     latest_starts_are_of_walks();
     let counts = edge_counts(alloc, &handler.graph, &found.walk)?;
+    let begun = WorstStarts {
+        latest: &starts,
+        first: None,
+    };
     let walk = CountedWalk {
         handler,
         longest: &found,
         counts: &counts,
-    };
-    let begun = WorstStarts {
-        latest: &starts,
-        first: None,
     };
     let text = page(alloc, read, walk, begun, extent)?;
     Ok(text)
