@@ -255,7 +255,8 @@ def cases():
         named = set(words)
         if words[:1] == ["import"]:
             named = {it for word in words[:-1] for it in (word, word.partition("@")[0])}
-            words[-1] = words[-1] if words[-1] in named else "made.image"
+            if len(plain) > 2 and words[-1] not in named:
+                words[-1] = "made.image"
         yield folder.name, words, {name: held[name] for name in held if name in named}, held
 
 
