@@ -4,7 +4,7 @@ use Rattle.objasm.specs.declared.faults.LineFault.{LineFault}
 use Rattle.objasm.specs.declared.faults.LineFault.TheVariants.{Memory, UnknownDirective, BadName, NameTwice}
 use Rattle.objasm.specs.declared.faults.LineFault.TheVariants.{NameMissing, BadExpression, BadNumber}
 use Rattle.objasm.specs.declared.faults.LineFault.TheVariants.{NoValue, BadRegister, BadOperand, NotANumber, NotLogical}
-use Rattle.objasm.specs.declared.faults.LineFault.TheVariants.{AssertionFailed}
+use Rattle.objasm.specs.declared.faults.LineFault.TheVariants.{AssertionFailed, ConditionMissing, ConditionOpen}
 
 abbrev pub name : LineFault → List ℕ
 name Memory = codes "Memory"
@@ -20,3 +20,5 @@ name BadOperand = codes "BadOperand"
 name NotANumber = codes "NotANumber"
 name NotLogical = codes "NotLogical"
 name AssertionFailed = codes "AssertionFailed"
+name ConditionMissing = codes "ConditionMissing"
+name ConditionOpen = codes "ConditionOpen"

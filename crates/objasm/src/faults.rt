@@ -49,6 +49,12 @@ pub enum LineFault {
     /// What is asserted does not hold.
     #[error("AssertionFailed")]
     AssertionFailed,
+    /// `|` or `]` where no condition is open, or a second `|` of one.
+    #[error("ConditionMissing")]
+    ConditionMissing,
+    /// A condition that is open at the end.
+    #[error("ConditionOpen")]
+    ConditionOpen,
 }
 
 impl From<AllocError> for LineFault {
@@ -86,6 +92,8 @@ impl LineFault {
             LineFault::NotANumber => b"NotANumber",
             LineFault::NotLogical => b"NotLogical",
             LineFault::AssertionFailed => b"AssertionFailed",
+            LineFault::ConditionMissing => b"ConditionMissing",
+            LineFault::ConditionOpen => b"ConditionOpen",
         }
     }
 }

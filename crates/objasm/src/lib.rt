@@ -11,6 +11,7 @@
 //! read, and to their values.
 #![tactic(auto)]
 
+mod conditions;
 mod evaluation;
 mod exchanges;
 mod faults;
