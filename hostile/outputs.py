@@ -43,7 +43,7 @@ def stream_rows(command):
     """What is done to a command's streams, and what it has to answer."""
     outcome = command.outcome
     right, silent = Is(outcome.status, outcome.out, outcome.err), Is(outcome.status, outcome.out)
-    failed = Announced(FAILED) if "--progress" in command.words else FAILED
+    failed = Announced(FAILED, command.files) if "--progress" in command.words else FAILED
     unprinted = failed if outcome.out else right
     unseen = Is(4 if outcome.out else outcome.status)
     is_debug = command.words[:1] == ["debug"]
@@ -72,8 +72,8 @@ def streams(commands):
 class Announced:
     """An answer with the lines of `--progress` in front of what standard error takes without them."""
 
-    def __init__(self, right):
-        self.right = right
+    def __init__(self, right, files):
+        self.right, self.files = right, files
 
     def __call__(self, outcome, folder):
         status, out, err = self.right.wanted
@@ -83,7 +83,7 @@ class Announced:
         # All answers here are shorter than 16 MiB.
         begun = [b"writing: 0 MiB"] if out else []
         announced = [it for it in lines if it.startswith(b"reading ")]
-        if not announced or lines != announced + begun:
+        if bool(announced) != bool(self.files) or lines != announced + begun:
             return f"{outcome}; not the lines of --progress"
         return None
 
@@ -94,7 +94,7 @@ def progress(commands):
         words = [it.words[0], "--progress", *it.words[1:]]
         right = Is(it.outcome.status, it.outcome.out, it.outcome.err)
         lost = Is(it.outcome.status, it.outcome.out)
-        for name, shell, judge in (("", "", Announced(right)), (", lost", "exec {} 2>/dev/full", lost)):
+        for name, shell, judge in (("", "", Announced(right, it.files)), (", lost", "exec {} 2>/dev/full", lost)):
             if it.image is not None:
                 judge = Leaves(judge, "made.image", it.image)
             yield Trial(f"{it.name} --progress{name}", words, judge, it.files, stdin=it.stdin, shell=shell)

@@ -2,11 +2,11 @@
 //! in a folder of its own: a line of its greatest run time, of the checker's verdict on the certificate that
 //! says so, and of the ticks of a run from its entry to the address to which it returns. Where FIQ
 //! interrupts the handler, the bound is that with as many visits as the run has. `follow` judges the run
-//! too, by FIQ's statement as well where there is one: it keeps the statement. The machine file of each free edge of
-//! the handler's flow graph is run too, by the first cycle profile and by that of `data/dearer.toml`. A
-//! handler fails where a certificate is not accepted, where a run takes more ticks than its bound or stops,
-//! where `follow` says other ticks or another end, or where the run of an edge takes more or fewer ticks
-//! than the edge costs.
+//! too, by FIQ's statement as well where there is one: it keeps the statement. The machine file of each free
+//! edge of the handler's flow graph is run too, by the first cycle profile and by that of `data/dearer.toml`.
+//! A handler fails where a certificate is not accepted, where a run takes more ticks than its bound or stops,
+//! where `follow` says other ticks or another end, or where the run of an edge takes more or fewer ticks than
+//! the edge costs.
 
 mod followed;
 mod judgement;

@@ -82,8 +82,8 @@ impl Session {
         }
     }
 
-    /// Obeys one command line, without its end. The answer's lines end with LF; a setting answers nothing, and
-    /// so does a line without words. An address A is a number, or else one of the labels.
+    /// Obeys one command line, without its end. The answer's lines end with LF; a setting answers nothing,
+    /// and so does a line without words. An address A is a number, or else one of the labels.
     ///
     /// - `step N`, 1 to 1024 steps, 1 where there is no number: their trace lines, up to a step that is
     ///   stopped.

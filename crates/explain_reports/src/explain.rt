@@ -11,7 +11,6 @@ ghost use Rattle.explain_reports.specs.ExplainReport.{IsTextOf, is_enough};
 ghost use Rattle.explain_reports.specs.FirstStarts.{AreAskedFirst};
 ghost use Rattle.longest_walk.specs.Folded.{unfolded};
 ghost use Rattle.sources.specs.Lines.{AreLines};
-ghost use Rattle.walk_counts.specs.Counts.{AreCounts};
 ghost use Rattle.handlers.specs.Priced.{Priced, given};
 ghost use Rattle.handlers.specs.Refusal.{Carries, CarriesRead, CarriesReadBy, ComesAlone, fault_only};
 ghost use Rattle.handlers.specs.Refusal.{stop_fault};
@@ -35,7 +34,7 @@ use statement::Statement;
 use std::alloc::{AllocError, Global};
 use std::collections::BTreeMap;
 use text_explained::{
-    Bursts, CountedWalk, RowForm, TimedWalk, assumed_text, burst_lines, cost_table, idle_entries,
+    Bursts, CountedWalk, RowForm, WorstStarts, assumed_text, burst_lines, cost_table, idle_entries,
     latest_starts_are_of_walks, loop_sums, places_are_listed_once, routine_sums, rule_lines,
     totals_are_the_bound,
 };
@@ -82,12 +81,13 @@ struct Means<'p, 'f> {
     first: Option<&'f BTreeMap<u32, u64>>,
 }
 
-// A greatest walk with the worst starts of its places and how often it takes each edge, the lines of the source
-// by the addresses of their words, which rows of its table are printed, and the bursts that are added to its
-// cost, by the profile's price of one.
+// A greatest walk with the worst starts of its graph's places, the lines of the source by the addresses of
+// their words, which rows of its table are printed, and the bursts that are added to its cost, by the
+// profile's price of one.
 #[derive(Clone, Copy)]
-struct BurstWalk<'w, 'p, 's> {
-    timed: TimedWalk<'w>,
+struct BurstWalk<'w, 'a, 't, 'p, 's> {
+    starts: WorstStarts<'t>,
+    counted: CountedWalk<'w, 'a>,
     lines: &'w BTreeMap<u32, SourceLine<'s>>,
     rows: RowForm,
     profile: &'p Profile,
@@ -114,30 +114,26 @@ fn is_enough(at_most: Option<u64>, bound: u64) -> bool
 fn text_of(
     alloc: Global,
     read: &Source<'_>,
-    handler: &Handler<'_>,
-    walk: BurstWalk<'_, '_, '_>,
+    walk: BurstWalk<'_, '_, '_, '_, '_>,
 ) -> Result<Vec<u8>, AllocError>
-    requires image { handler.now.image.now ≡ read.now.image }
-    requires tree { HasItsTree handler.now }
+    requires image { walk.counted.handler.now.image.now ≡ read.now.image }
+    requires tree { HasItsTree walk.counted.handler.now }
     requires lines { AreLines read.now walk.lines.now }
-    requires counts { AreCounts handler.now.graph.edges (unfolded walk.timed.longest.now.walk)
-        walk.timed.counts.now }
     ensures { IfOk result
-        (λ text. IsTextOf read.now handler.now.statement handler.now.graph walk.entry.timed.longest.now
-        (starts_of handler.now.graph.places walk.entry.timed.starts.now (first_of walk.entry.timed.first))
+        (λ text. IsTextOf read.now walk.entry.counted.handler.now.statement
+        walk.entry.counted.handler.now.graph walk.entry.counted.longest.now
+        (starts_of walk.entry.counted.handler.now.graph.places walk.entry.starts.latest.now
+        (first_of walk.entry.starts.first))
         walk.entry.rows walk.entry.profile.now.burst walk.entry.bursts text.items) }
 {
-    let longest = walk.timed.longest;
-    let counted = CountedWalk {
-        graph: &handler.graph,
-        longest,
-        counts: walk.timed.counts,
-    };
-    let mut text = cost_table(alloc, read, handler, walk.timed, walk.rows)?;
+    let counted = walk.counted;
+    let handler = counted.handler;
+    let longest = counted.longest;
+    let mut text = cost_table(alloc, read, counted, walk.starts, walk.rows)?;
     let mut rest = burst_lines(alloc, walk.profile, longest.bound, walk.bursts)?;
-    let loops = loop_sums(alloc, walk.lines, handler, counted)?;
+    let loops = loop_sums(alloc, walk.lines, counted)?;
     rest.extend_from_slice(&loops)?;
-    let routines = routine_sums(alloc, walk.lines, handler.image, counted)?;
+    let routines = routine_sums(alloc, walk.lines, counted)?;
     rest.extend_from_slice(&routines)?;
     let contradictions = contradiction_text(alloc, read, handler.image, &longest.walk)?;
     rest.extend_from_slice(&contradictions)?;
@@ -149,7 +145,7 @@ fn text_of(
     rest.extend_from_slice(&idle)?;
     let masks = masks_text(alloc, read, handler)?;
     rest.extend_from_slice(&masks)?;
-    let saved = savings_text(alloc, read, walk.lines, handler, counted)?;
+    let saved = savings_text(alloc, read, walk.lines, counted)?;
     rest.extend_from_slice(&saved)?;
     text.extend_from_slice(&rest)?;
     Ok(text)
@@ -185,18 +181,21 @@ fn explanation_of(
     let lines = read.lines(alloc)?;
     let counts = edge_counts(alloc, &handler.graph, &found.walk)?;
     let walk = BurstWalk {
-        timed: TimedWalk {
-            longest: &found,
-            starts: &starts,
-            counts: &counts,
+        starts: WorstStarts {
+            latest: &starts,
             first: means.first,
+        },
+        counted: CountedWalk {
+            handler,
+            longest: &found,
+            counts: &counts,
         },
         lines: &lines,
         rows: means.form.rows,
         profile: means.profile,
         bursts: means.bursts,
     };
-    let text = text_of(alloc, read, handler, walk)?;
+    let text = text_of(alloc, read, walk)?;
     Ok(Explanation {
         bound: found.bound,
         text,

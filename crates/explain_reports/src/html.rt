@@ -23,7 +23,8 @@ use outputs::Output;
 use sources::Source;
 use std::alloc::Global;
 use text_explained::{
-    TimedWalk, latest_starts_are_of_walks, places_are_listed_once, totals_are_the_bound,
+    CountedWalk, WorstStarts, latest_starts_are_of_walks, places_are_listed_once,
+    totals_are_the_bound,
 };
 use text_graph::Extent;
 use text_page::page;
@@ -54,13 +55,16 @@ fn page_of(
     totals_are_the_bound();
     latest_starts_are_of_walks();
     let counts = edge_counts(alloc, &handler.graph, &found.walk)?;
-    let walk = TimedWalk {
-        longest: &found,
-        starts: &starts,
-        counts: &counts,
+    let begun = WorstStarts {
+        latest: &starts,
         first: None,
     };
-    let text = page(alloc, read, handler, walk, extent)?;
+    let walk = CountedWalk {
+        handler,
+        longest: &found,
+        counts: &counts,
+    };
+    let text = page(alloc, read, walk, begun, extent)?;
     Ok(text)
 }
 

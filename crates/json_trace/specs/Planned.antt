@@ -1,5 +1,6 @@
 -- What the code plans of a step's transfers. It is here since clauses of private functions cite it.
-use Rattle.std.specs.Prelude.{codes, ℕ, zero, suc, Bool, not, nat_lt, if◌then◌else◌, List, [], ◌∷◌, ◌++◌, Option, Some, None}
+use Rattle.std.specs.Prelude.{codes, ℕ, zero, suc, Bool, not, nat_lt, if◌then◌else◌, List, [], ◌∷◌, ◌++◌}
+use Rattle.std.specs.Prelude.{Option, Some, None}
 use Rattle.bus_ticks.specs.Prices.{word_address}
 use Rattle.bus_ticks.specs.declared.space.TheConstants.{SPACE_END}
 use Rattle.arm2_decode.specs.declared.instr.Operation.{Operation}

@@ -1,5 +1,6 @@
 -- The lines of a run.
-use Rattle.std.specs.Prelude.{◌≡◌, ℕ, ◌+◌, ◌*◌, List, [], ◌∷◌, ◌++◌, codes, decimal, if◌then◌else◌, option_map}
+use Rattle.std.specs.Prelude.{◌≡◌, ℕ, ◌+◌, ◌*◌, List, [], ◌∷◌, ◌++◌, codes, decimal, if◌then◌else◌}
+use Rattle.std.specs.Prelude.{option_map}
 use Rattle.arm2_effect.specs.Effects.{is_stopped}
 use Rattle.arm2_exec.specs.Run.{why_stopped}
 use Rattle.arm2_exec.specs.State.{State}

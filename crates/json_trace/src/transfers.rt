@@ -8,7 +8,8 @@ ghost use Rattle.arm2_exec.specs.declared.machine.Input.{Input};
 ghost use Rattle.arm2_exec.specs.declared.machine.Stepped.{Stepped};
 ghost use Rattle.json_trace.specs.Facts.{carried};
 ghost use Rattle.json_trace.specs.Json.{array, separated};
-ghost use Rattle.json_trace.specs.StepLine.{memory_word, size_of, transfer_kind, transfer_value, transfers_in};
+ghost use Rattle.json_trace.specs.StepLine.{memory_word, size_of, transfer_kind, transfer_value};
+ghost use Rattle.json_trace.specs.StepLine.{transfers_in};
 ghost use Rattle.json_trace.specs.Planned.{comma, moved_words, planned_by, planned_if, words_in_space};
 ghost use Rattle.json_trace.specs.Planned.{words_of};
 

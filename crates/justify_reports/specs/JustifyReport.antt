@@ -33,9 +33,9 @@ pub record IsJustifyText (read : Source) (given : List Given) (left : Option OnT
 abbrev pub is_enough : (all : Bool) → List Row → Bool
 is_enough all rows = (false_count rows == 0) && (not all || (follows_count rows == length rows))
 
--- Of an accepted source and statement: what is left on trust, where each other entry is proved to follow; where
--- the words go that return or leave, which words go outside of their classes, and which loops no run leaves; the
--- rows that say so, and the bound of each run that keeps what is on trust.
+-- Of an accepted source and statement: what is left on trust, where each other entry is proved to follow;
+-- where the words go that return or leave, which words go outside of their classes, and which loops no run
+-- leaves; the rows that say so, and the bound of each run that keeps what is on trust.
 pub record IsJustifyReport (source : File) (statement : List ℕ) (given : List Given) (all : Bool)
     (profile : Profile) (answer : Bool) (text : List ℕ) : Type 0 where
   pub bounded : IsBounded source statement profile

@@ -31,7 +31,8 @@ module _ (IsThere : ℕ → Type 0) (ranges : List (Option Range)) (end : ℕ) w
     pub lowest : HasEnd (λ r. r.low) range.low
     pub highest : HasEnd (λ r. r.high) range.high
 
--- the range into which the word at the address goes outside of its class from all places; none, if there is none
+-- the range into which the word at the address goes outside of its class from all places; none, if there is
+-- none
 abbrev pub IsOutside : Flow → Tree → List (Option Range) → (a : ℕ) → Option Range → Type 0
 IsOutside flow tree ranges a None =
     (range : Range) → IsHull (IsPlaceAt flow tree a) ranges (length flow.places) range → ⊥

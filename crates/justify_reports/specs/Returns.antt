@@ -1,5 +1,6 @@
 -- Where the words go that return or leave a handler.
-use Rattle.std.specs.Prelude.{◌≡◌, ◌<◌, ◌≤◌, ◌==◌, ◌↔◌, ℕ, Bool, true, false, not, ◌&&◌, ◌||◌, if◌then◌else◌, List}
+use Rattle.std.specs.Prelude.{◌≡◌, ◌<◌, ◌≤◌, ◌==◌, ◌↔◌, ℕ, Bool, true, false, not, ◌&&◌, ◌||◌, if◌then◌else◌}
+use Rattle.std.specs.Prelude.{List}
 use Rattle.std.specs.Prelude.{Contains, Option, Some, None, is_some, length, nat_lt}
 use Rattle.std.specs.List.Sorted.{IsStrictlySortedBy}
 use Rattle.std.specs.Ordering.{nat_cmp}
@@ -26,7 +27,8 @@ use Rattle.known_places.specs.Destinations.{destination_at}
 use Rattle.known_places.specs.declared.destination.Destination.{Destination}
 use Rattle.known_places.specs.declared.destination.Destination.TheVariants.{LinkLess, To, Unknown}
 use Rattle.justify_reports.specs.declared.returns.Going.{Going}
-use Rattle.justify_reports.specs.declared.returns.Going.TheVariants.{AfterCall, Back, BackInside, Elsewhere, Out, Unseen}
+use Rattle.justify_reports.specs.declared.returns.Going.TheVariants.{AfterCall, Back, BackInside, Elsewhere}
+use Rattle.justify_reports.specs.declared.returns.Going.TheVariants.{Out, Unseen}
 
 -- ## Which words return
 
@@ -67,8 +69,8 @@ is_of Medium a = by_class (class_of a) false false (speed_of a == 1)
 is_of Fast a = by_class (class_of a) false false (speed_of a == 2)
 is_of Synchronous a = by_class (class_of a) false false (speed_of a == 3)
 
--- an address to which a word may leave: it is of the class of leave, and either the source has no word there or
--- the word that goes there is stated to leave
+-- an address to which a word may leave: it is of the class of leave, and either the source has no word there
+-- or the word that goes there is stated to leave
 abbrev pub is_outside : Words → (leave : Class) → (stated : Bool) → ℕ → Bool
 is_outside words leave stated a = is_of leave a && (stated || not (is_some (word_of words a)))
 

@@ -11,7 +11,8 @@ use Rattle.text_rows.specs.Columns.{in_columns}
 use Rattle.text_rows.specs.Rows.{AreRows, IsShownRow, address_row, named_row}
 use Rattle.text_rows.specs.WordLines.{Numbered}
 use Rattle.justify_reports.specs.declared.returns.Going.{Going}
-use Rattle.justify_reports.specs.declared.returns.Going.TheVariants.{AfterCall, Back, BackInside, Elsewhere, Out, Unseen}
+use Rattle.justify_reports.specs.declared.returns.Going.TheVariants.{AfterCall, Back, BackInside, Elsewhere}
+use Rattle.justify_reports.specs.declared.returns.Going.TheVariants.{Out, Unseen}
 use Rattle.justify_reports.specs.declared.rows.Entry.{Entry}
 use Rattle.justify_reports.specs.declared.rows.Entry.TheVariants.{Access, Base, Endless, Loop, Return}
 use Rattle.justify_reports.specs.declared.rows.Reach.{Reach}
@@ -50,8 +51,8 @@ abbrev pub reach_text : Reach → List ℕ
 reach_text (Of class) = class_name class
 reach_text (Outside range) = range_text range
 
--- what is stated, a class or the most back edges of a stay; or where a word goes outside of its class, or where
--- a return goes, or that no run leaves a loop
+-- what is stated, a class or the most back edges of a stay; or where a word goes outside of its class, or
+-- where a return goes, or that no run leaves a loop
 abbrev pub stated_text : Entry → List ℕ
 stated_text (Access reach) = reach_text reach
 stated_text (Base reach) = reach_text reach

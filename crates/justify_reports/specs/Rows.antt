@@ -28,7 +28,8 @@ use Rattle.justify_reports.specs.Trust.{lists_class, trusts_class, trusts_loop}
 use Rattle.justify_reports.specs.declared.rows.Entry.{Entry}
 use Rattle.justify_reports.specs.declared.rows.Entry.TheVariants as entry
 use Rattle.justify_reports.specs.declared.returns.Going.{Going}
-use Rattle.justify_reports.specs.declared.returns.Going.TheVariants.{AfterCall, Back, BackInside, Elsewhere, Out, Unseen}
+use Rattle.justify_reports.specs.declared.returns.Going.TheVariants.{AfterCall, Back, BackInside, Elsewhere}
+use Rattle.justify_reports.specs.declared.returns.Going.TheVariants.{Out, Unseen}
 use Rattle.justify_reports.specs.declared.rows.Reach.{Reach}
 use Rattle.justify_reports.specs.declared.rows.Reach.TheVariants.{Of, Outside}
 use Rattle.justify_reports.specs.declared.rows.Row.{Row}

@@ -36,9 +36,9 @@ trusts_loop (Some trusted) address = list_any (λ a. a == address) trusted.loops
 
 -- ## Runs
 
--- A run that begins with words of 32 bits in the registers of the entry's mode but R15, as given, goes from the
--- entry to Exit and keeps the statement step by step but for its classes and its loops' bounds, and keeps those
--- that are left on trust.
+-- A run that begins with words of 32 bits in the registers of the entry's mode but R15, as given, goes from
+-- the entry to Exit and keeps the statement step by step but for its classes and its loops' bounds, and keeps
+-- those that are left on trust.
 pub record KeepsOnTrust (words : Words) (st : Stated) (flow : Flow) (given : List Given) (trusted : OnTrust)
     (s : State) (inputs : List Input) : Type 0 where
   pub are_words : AreWords s.regs

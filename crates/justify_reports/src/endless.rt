@@ -56,8 +56,8 @@ fn put_instance(
     put_header(found, instance.stated.header, said)
 }
 
-/// Whether no run leaves any instance of the loop with its header at each address. `AllocError`: an allocation
-/// failed.
+/// Whether no run leaves any instance of the loop with its header at each address. `AllocError`: an
+/// allocation failed.
 pub(crate) fn endless_headers(
     alloc: Global,
     handler: &Handler<'_>,

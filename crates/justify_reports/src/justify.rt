@@ -252,7 +252,8 @@ fn read_justified<'a>(
 /// stated loop, in the statement's order, with what is stated or where the word goes, `follows`, `ON TRUST`
 /// or `FALSE`, and the line in the source; then how many follow; then the bound, in ticks, of each run that
 /// begins as given and keeps what is on trust. Each entry that follows is proved to hold in each such run,
-/// whether it ends or not. Answers no where one is false, or all are to follow and one does not, and else yes.
+/// whether it ends or not. Answers no where one is false, or all are to follow and one does not, and else
+/// yes.
 ///
 /// # Errors
 ///

@@ -1,6 +1,7 @@
 //! Where words go of whose stated class no address is that they reach.
 
-ghost use Rattle.std.specs.Prelude.{◌≡◌, ◌<◌, ◌+◌, ◌==◌, if◌then◌else◌, ℕ, IfOk, OnOk, Some, length, option_map};
+ghost use Rattle.std.specs.Prelude.{◌≡◌, ◌<◌, ◌+◌, ◌==◌, if◌then◌else◌, ℕ, IfOk, OnOk, Some, length};
+ghost use Rattle.std.specs.Prelude.{option_map};
 ghost use Rattle.std.specs.BTreeMap.{get};
 ghost use Rattle.std.specs.Ordering.{nat_cmp};
 ghost use Rattle.known_places.specs.Outside.{outside_at};
@@ -83,8 +84,8 @@ fn put_place(
     put_range(found, address, range)
 }
 
-/// Where the word at each address goes outside of its class: none, where that is not seen from all its places.
-/// `AllocError`: an allocation failed.
+/// Where the word at each address goes outside of its class: none, where that is not seen from all its
+/// places. `AllocError`: an allocation failed.
 pub(crate) fn ranges_outside(
     alloc: Global,
     handler: &Handler<'_>,

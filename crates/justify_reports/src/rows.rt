@@ -10,7 +10,8 @@ ghost use Rattle.justify_reports.specs.Rows.{AreClassRows, AreLoopRows, AreState
 ghost use Rattle.justify_reports.specs.Rows.{IsLoopRow};
 ghost use Rattle.justify_reports.specs.Endless.{AreFoundEndless};
 ghost use Rattle.justify_reports.specs.Outside.{AreFoundOutside};
-ghost use Rattle.justify_reports.specs.Rows.{AreFoundRows, AreReturnRows, class_verdict, entry_of, loop_entry};
+ghost use Rattle.justify_reports.specs.Rows.{AreFoundRows, AreReturnRows, class_verdict, entry_of};
+ghost use Rattle.justify_reports.specs.Rows.{loop_entry};
 ghost use Rattle.justify_reports.specs.Rows.{loop_verdict, reach_of, return_row, verdict_of};
 ghost use Rattle.justify_reports.specs.TrustSets.{AreSetsOf};
 
@@ -59,8 +60,8 @@ pub(crate) enum Entry {
 pub(crate) enum Verdict {
     Follows,
     OnTrust,
-    /// Where it is done, it goes elsewhere than it is taken to go, or outside of its class; or no run that comes
-    /// to the loop leaves it and keeps all that is stated but the classes.
+    /// Where it is done, it goes elsewhere than it is taken to go, or outside of its class; or no run that
+    /// comes to the loop leaves it and keeps all that is stated but the classes.
     False,
 }
 

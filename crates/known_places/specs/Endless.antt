@@ -1,5 +1,6 @@
 -- Instances of loops that no run leaves while it keeps the bounds of all loops.
-use Rattle.std.specs.Prelude.{◌≡◌, ◌<◌, ℕ, Bool, true, false, List, [], length, Contains, Some, slice_index_or}
+use Rattle.std.specs.Prelude.{◌≡◌, ◌<◌, ℕ, Bool, true, false, List, [], length, Contains, Some}
+use Rattle.std.specs.Prelude.{slice_index_or}
 use Rattle.walks.specs.Rows.{is_left}
 use Rattle.walks.specs.Walk.{Leads}
 use Rattle.image.specs.Image.{Words, word_of}
@@ -92,8 +93,8 @@ WordNeverGoes word label known =
     (entry turns regs : List ℕ) (action : Action) → IsAction word action → label_in regs action.cond ≡ label
     → Holds entry turns known regs → ⊥
 
--- the same after a walk that keeps the bounds of the spans, where the loops that are counted there have turned
--- as the walk turned them
+-- the same after a walk that keeps the bounds of the spans, where the loops that are counted there have
+-- turned as the walk turned them
 abbrev pub NeverGoesWithin : List Span → Around → (word : ℕ) → Label → Knowledge → Type 0
 NeverGoesWithin spans around word label known =
     (entry regs : List ℕ) (walk : List NumberedEdge) (action : Action) → KeepsSpans spans walk

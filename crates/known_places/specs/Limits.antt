@@ -32,7 +32,8 @@ abbrev pub Reaches : Sum → Limits → Range → Type 0
 Reaches sum limits range =
     (entry turns : List ℕ) (word : ℕ) → AreWithin limits turns → IsSum entry turns sum word → IsIn range word
 
--- of a word of which the one is known the other is known too, where the loops around have turned no more often
+-- of a word of which the one is known the other is known too, where the loops around have turned no more
+-- often
 abbrev pub LimitsWord : Limits → (known result : Known) → Type 0
 LimitsWord limits known result =
     (entry turns : List ℕ) (word : ℕ) → AreWithin limits turns → IsKnown entry turns known word

@@ -80,8 +80,8 @@ MovesOutside class o address known range =
     (entry turns regs : List ℕ) → address_in regs ≡ address → Holds entry turns known regs
     → HasOutside class range (words_of o regs)
 
--- Wherever the word at the address is done, with neither an exception nor a stop, and this is known before it,
--- it loads or stores outside of the class.
+-- Wherever the word at the address is done, with neither an exception nor a stop, and this is known before
+-- it, it loads or stores outside of the class.
 abbrev pub WordGoesOutside : Class → (word address : ℕ) → Knowledge → Range → Type 0
 WordGoesOutside class word address known range =
     (entry turns regs : List ℕ) (port : ℕ) (bus : Bus) (m : Moved) (action : Action) → length regs ≡ 27
@@ -89,8 +89,8 @@ WordGoesOutside class word address known range =
     → Obeys word port regs bus m → m.kind ≡ Plain → Holds entry turns known regs
     → TransfersOutside class range m.accesses
 
--- the same after a walk that keeps the bounds of the spans, where the loops that are counted there have turned
--- as the walk turned them
+-- the same after a walk that keeps the bounds of the spans, where the loops that are counted there have
+-- turned as the walk turned them
 abbrev pub GoesOutsideWithin : List Span → Around → Class → (word address : ℕ) → Action → Knowledge → Range
     → Type 0
 GoesOutsideWithin spans around class word address action known range =

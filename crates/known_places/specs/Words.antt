@@ -46,8 +46,8 @@ StaysIn class word address known =
     → address_in regs ≡ address → Obeys word port regs bus m → m.kind ≡ Plain → Holds entry turns known regs
     → TransfersIn class m.accesses
 
--- the same after a walk that keeps the bounds of the spans, where the loops that are counted there have turned
--- as the walk turned them
+-- the same after a walk that keeps the bounds of the spans, where the loops that are counted there have
+-- turned as the walk turned them
 abbrev pub StaysWithin : List Span → Around → Class → (word address : ℕ) → Knowledge → Type 0
 StaysWithin spans around class word address known =
     (entry regs : List ℕ) (walk : List NumberedEdge) (port : ℕ) (bus : Bus) (m : Moved) → KeepsSpans spans walk

@@ -175,9 +175,10 @@ fn destinations_in(
 
 /// Where the word of each place goes that writes R15, by facts on registers before the first step and by a
 /// table of what is known of the registers before each place's word; both lists are by the numbers of the
-/// places. It holds where the word is done, in each run from the entry that starts as the facts say and so far
-/// keeps the statement step by step but for its classes and its loops' bounds. It is seen of data processing
-/// alone, and so of no load. None where the table is not seen to hold along each edge, as in `left_on_trust`.
+/// places. It holds where the word is done, in each run from the entry that starts as the facts say and so
+/// far keeps the statement step by step but for its classes and its loops' bounds. It is seen of data
+/// processing alone, and so of no load. None where the table is not seen to hold along each edge, as in
+/// `left_on_trust`.
 ///
 /// It takes time linear in the edges, the facts and the loops, and in the places of each loop.
 ///

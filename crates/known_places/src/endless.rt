@@ -159,8 +159,8 @@ fn all_closed(
 /// what is known of the registers before each place's word, by the numbers of the places; the answer is by
 /// those of the instances. Where it says yes, no run from the entry that starts as the facts say, keeps the
 /// bounds of all loops, and so far keeps the statement step by step but for its classes, goes on out of the
-/// instance: within the stated bounds each way out of it is seen to be closed, or there is none. None where the
-/// table is not seen to hold along each edge, as in `left_on_trust`.
+/// instance: within the stated bounds each way out of it is seen to be closed, or there is none. None where
+/// the table is not seen to hold along each edge, as in `left_on_trust`.
 ///
 /// It takes time linear in the edges, the facts and the loops, and in the places of each loop and their
 /// edges.

@@ -1,6 +1,6 @@
 //! What is known of the registers at each place of a handler, and which of the classes that are stated of its
-//! accesses, and of the bounds of its loops, follow from that; which classes none of its runs keeps, and which
-//! loops none leaves within the bounds; and where its words go that write R15.
+//! accesses, and of the bounds of its loops, follow from that; which classes none of its runs keeps, and
+//! which loops none leaves within the bounds; and where its words go that write R15.
 #![tactic(auto)]
 
 mod around;

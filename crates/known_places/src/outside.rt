@@ -10,7 +10,8 @@ ghost use Rattle.loop_bounds.specs.Handler.{HasItsTree};
 ghost use Rattle.image.specs.Image.{Words};
 ghost use Rattle.statement.specs.Stated.{Stated, class_at};
 ghost use Rattle.known_words.specs.declared.words.Range.{Range};
-ghost use Rattle.known_places.specs.Outside.{AreOutside, GoesOutsideWithin, PlaceGoesOutside, WordGoesOutside};
+ghost use Rattle.known_places.specs.Outside.{AreOutside, GoesOutsideWithin, PlaceGoesOutside};
+ghost use Rattle.known_places.specs.Outside.{WordGoesOutside};
 ghost use Rattle.known_places.specs.Outside.{GoesOutside, NoneKeptDoes, outside_at};
 
 use crate::around::Around;
@@ -108,13 +109,13 @@ fn all_outside(
     Ok(found)
 }
 
-/// Where the word of each place loads or stores, if that is outside of the class that is stated of it, by facts
-/// on registers before the first step and by a table of what is known of the registers before each place's word;
-/// both lists are by the numbers of the places. Where there is a range, the word, each time that it is done,
-/// loads or stores a word at an address that is in the range and not of the class: of a block the first, which
-/// the contract does not say. So it is in each run from the entry that starts as the facts say, keeps the bounds
-/// of all loops, and so far keeps the statement step by step but for its classes. None where the table is not
-/// seen to hold along each edge, as in `left_on_trust`.
+/// Where the word of each place loads or stores, if that is outside of the class that is stated of it, by
+/// facts on registers before the first step and by a table of what is known of the registers before each
+/// place's word; both lists are by the numbers of the places. Where there is a range, the word, each time
+/// that it is done, loads or stores a word at an address that is in the range and not of the class: of a
+/// block the first, which the contract does not say. So it is in each run from the entry that starts as the
+/// facts say, keeps the bounds of all loops, and so far keeps the statement step by step but for its classes.
+/// None where the table is not seen to hold along each edge, as in `left_on_trust`.
 ///
 /// It takes time linear in the edges, the facts and the loops, and in the places of each loop.
 ///

@@ -9,8 +9,8 @@ use Rattle.debugger.specs.SessionState.{begun}
 use Rattle.handlers.specs.Placing.{IsPlaced}
 use Rattle.sources.specs.File.{File}
 
--- the session of the loaded machine by the lines of the commands and the labels of the source, with the file's
--- word at the port; its steps and events are not used
+-- the session of the loaded machine by the lines of the commands and the labels of the source, with the
+-- file's word at the port; its steps and events are not used
 pub record IsDebugReport (source : File) (machine commands : List ℕ) (profile : Profile)
     (text : List ℕ) : Type 0 where
   pub file : Stated

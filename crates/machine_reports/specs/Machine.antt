@@ -7,7 +7,7 @@ use Rattle.arm2_effect.specs.Modes.{r15_in}
 use Rattle.arm2_effect.specs.ProgramCounter.{address_of}
 use Rattle.arm2_exec.specs.Run.{Runs}
 use Rattle.arm2_exec.specs.State.{State}
-use Rattle.arm2_exec.specs.Step.{address_in as next_address}
+use Rattle.arm2_exec.specs.Step.{address_in}
 use Rattle.arm2_exec.specs.declared.machine.Input.{Input}
 use Rattle.arm2_exec.specs.declared.machine.Ran.{Ran}
 use Rattle.asm_text.specs.Hex.{hex}
@@ -41,7 +41,8 @@ ShowsSteps state inputs after front = TracesRun state inputs front
 abbrev pub ShowsRecords : Front
 ShowsRecords state inputs after front = RecordsRun state inputs front
 
--- what a report ends with: of the address to which the run was to go, if any, the run, and the machine after it
+-- what a report ends with: of the address to which the run was to go, if any, the run, and the machine after
+-- it
 abbrev pub End : Type 0
 End = (to : Option ℕ) → Ran → State → List ℕ
 
@@ -54,7 +55,7 @@ reached_if None next = []
 reached_if (Some to) next = reached_text to next
 
 abbrev pub lines_end : End
-lines_end to ran after = reached_if to (next_address after.regs) ++ end_text ran after
+lines_end to ran after = reached_if to (address_in after.regs) ++ end_text ran after
 
 abbrev pub record_end : End
 record_end to ran after = end_line ran after

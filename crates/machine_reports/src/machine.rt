@@ -4,7 +4,7 @@ ghost use Rattle.bus_ticks.specs.declared.profile.Profile.{Profile};
 ghost use Rattle.arm2_exec.specs.Run.{Runs};
 ghost use Rattle.asm_text.specs.Appended.{Appends};
 ghost use Rattle.handlers.specs.Placing.{IsPlaced, IsRunRefused, IsRunnable};
-ghost use Rattle.arm2_exec.specs.Step.{address_in as next_address};
+ghost use Rattle.arm2_exec.specs.Step.{address_in};
 ghost use Rattle.machine_reports.specs.Machine.{End, Front, IsMachineReport, ReportsRun, ShowsRecords};
 ghost use Rattle.machine_reports.specs.Machine.{ShowsRegisters, ShowsSteps, end_text, lines_end, reached_if};
 ghost use Rattle.machine_reports.specs.Machine.{record_end};
@@ -44,7 +44,7 @@ fn put_end(out: &mut String, machine: &Machine, ran: &Ran) -> Result<(), AllocEr
 // That the run has reached the address to which it was to go, if it has.
 fn put_reached(out: &mut String, machine: &Machine, to: Option<u32>) -> Result<(), AllocError>
     ensures { OnOk result
-        (string_bytes out.new ≡ string_bytes out.old ++ reached_if to (next_address machine.now.regs)) }
+        (string_bytes out.new ≡ string_bytes out.old ++ reached_if to (address_in machine.now.regs)) }
 {
     match to {
         Some(to) if machine.address() == to => write!(out, "reached {to:X}\n"),

@@ -138,8 +138,8 @@ fn priced<F: Front, O: Output>(
 
 /// Runs the machine as [`machine_report`](crate::machine_report) does, up to the first state in which the
 /// instruction at an address is next, before the first step too; where the run comes to none, as far as that
-/// does. Prints the same, in lines of text with a line `reached` and the address in front of the ticks where it
-/// is next, and answers whether the machine has not stopped.
+/// does. Prints the same, in lines of text with a line `reached` and the address in front of the ticks where
+/// it is next, and answers whether the machine has not stopped.
 ///
 /// # Errors
 ///

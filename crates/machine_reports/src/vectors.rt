@@ -21,8 +21,8 @@ fn new_machine(alloc: Global) -> Result<Machine, ReportFault>
 }
 
 /// Prints so many test vectors of a seed, as an array of JSON: each is a step of the machine, with the state
-/// before it, the state after it, and its accesses. The answer is yes. It takes memory before it prints, and as
-/// much for any number of vectors.
+/// before it, the state after it, and its accesses. The answer is yes. It takes memory before it prints, and
+/// as much for any number of vectors.
 ///
 /// # Errors
 ///

@@ -3,8 +3,10 @@ use Rattle.std.specs.Prelude.{ℕ, List, codes}
 use Rattle.objasm.specs.declared.faults.LineFault.{LineFault}
 use Rattle.objasm.specs.declared.faults.LineFault.TheVariants.{Memory, UnknownDirective, BadName, NameTwice}
 use Rattle.objasm.specs.declared.faults.LineFault.TheVariants.{NameMissing, BadExpression, BadNumber}
-use Rattle.objasm.specs.declared.faults.LineFault.TheVariants.{NoValue, BadRegister, BadOperand, NotANumber, NotLogical}
-use Rattle.objasm.specs.declared.faults.LineFault.TheVariants.{AssertionFailed, ConditionMissing, ConditionOpen}
+use Rattle.objasm.specs.declared.faults.LineFault.TheVariants.{NoValue, BadRegister, BadOperand, NotANumber}
+use Rattle.objasm.specs.declared.faults.LineFault.TheVariants.{NotLogical}
+use Rattle.objasm.specs.declared.faults.LineFault.TheVariants.{AssertionFailed, ConditionMissing, ElseTwice}
+use Rattle.objasm.specs.declared.faults.LineFault.TheVariants.{ConditionOpen, ConditionTooDeep}
 
 abbrev pub name : LineFault → List ℕ
 name Memory = codes "Memory"
@@ -21,4 +23,6 @@ name NotANumber = codes "NotANumber"
 name NotLogical = codes "NotLogical"
 name AssertionFailed = codes "AssertionFailed"
 name ConditionMissing = codes "ConditionMissing"
+name ElseTwice = codes "ElseTwice"
 name ConditionOpen = codes "ConditionOpen"
+name ConditionTooDeep = codes "ConditionTooDeep"

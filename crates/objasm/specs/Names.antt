@@ -1,5 +1,5 @@
--- What names mean: which are set for numbers, which for registers, which for places behind a base register, and
--- which have no value yet.
+-- What names mean: which are set for numbers, which for registers, which for places behind a base register,
+-- and which have no value yet.
 use Rattle.std.specs.Prelude.{◌≡◌, ◌||◌, ◌⊎◌, ◌+◌, ◌%◌, ◌^◌, ℕ, Bool, List, Option, Some, None, is_some}
 use Rattle.std.specs.Prelude.{Result, Ok, Err, if◌then◌else◌, option_map}
 use Rattle.std.specs.Option.{option_and_then}

@@ -21,7 +21,8 @@ use Rattle.objasm.specs.declared.names.Address.{Address}
 use Rattle.objasm.specs.declared.plain_lines.Literal.{Literal}
 use Rattle.objasm.specs.declared.plain_lines.Literal.TheVariants.{Plain, Hex}
 use Rattle.objasm.specs.declared.plain_lines.Translation.{Translation}
-use Rattle.objasm.specs.declared.plain_lines.Translation.TheVariants.{Number, Offset, Changed, Value, Place, Sum}
+use Rattle.objasm.specs.declared.plain_lines.Translation.TheVariants.{Number, Offset, Changed, Value, Place}
+use Rattle.objasm.specs.declared.plain_lines.Translation.TheVariants.{Sum}
 use Rattle.objasm.specs.declared.plain_lines.Translation.TheVariants.{Parts}
 use Rattle.objasm.specs.declared.words.Operands.{Operands}
 use Rattle.objasm.specs.declared.words.Operands.TheVariants.{Values, Offsets, Exchanged, Sums, Others}
@@ -206,7 +207,8 @@ assert_text m ps = and_then asserted (truth_of m ps)
 -- a word and its operands, which are exchanged for others where the number fits only so
 unfoldable pub operation_text : Meanings → List ℕ → List Part → Text
 operation_text m word ps =
-    if is_sum m word ps then sum_line m word ps else and_then (exchanged_text m word ps) (exchange_of m word ps)
+    if is_sum m word ps then sum_line m word ps
+    else and_then (exchanged_text m word ps) (exchange_of m word ps)
 
 -- a word of the processor or a directive, and what is behind it
 abbrev pub instruction_text : Meanings → List ℕ → List Part → Text

@@ -54,7 +54,8 @@ no_number m run = if is_some (m.bases run) then NotANumber else NameMissing
 -- the number that a run stands for: by its digits, or as the name of one
 abbrev pub number_of : Meanings → List ℕ → Result ℕ LineFault
 number_of m run =
-    if begins_number run then ok_or (read_numeral run) BadNumber else ok_or (m.constants run) (no_number m run)
+    if begins_number run then ok_or (read_numeral run) BadNumber
+    else ok_or (m.constants run) (no_number m run)
 
 -- a symbol, if one is read to its end, and what has been read of the next
 abbrev pub Step : Type 0

@@ -1,5 +1,6 @@
 -- The words of ObjAsm that have a meaning of their own.
-use Rattle.std.specs.Prelude.{ℕ, ◌+◌, ◌==◌, ◌||◌, nat_lt, Bool, false, List, [], ◌∷◌, ◌++◌, codes, length, take}
+use Rattle.std.specs.Prelude.{ℕ, ◌+◌, ◌==◌, ◌||◌, nat_lt, Bool, false, List, [], ◌∷◌, ◌++◌, codes, length}
+use Rattle.std.specs.Prelude.{take}
 use Rattle.std.specs.Prelude.{drop}
 use Rattle.std.specs.Prelude.{if◌then◌else◌}
 use Rattle.std.specs.List.{list_any}
@@ -27,7 +28,8 @@ abbrev pub directives : List (List ℕ)
 directives =
     codes "ADRL" ∷ codes "ALIGN" ∷ codes "AOF" ∷ codes "AOUT" ∷ codes "BIN" ∷ codes "CN" ∷ codes "CP"
     ∷ codes "DATA" ∷ codes "DCB" ∷ codes "DCFD" ∷ codes "DCFS" ∷ codes "DCW" ∷ codes "ELSE" ∷ codes "END"
-    ∷ codes "ENDIF" ∷ codes "EQU" ∷ codes "FIELD" ∷ codes "FN" ∷ codes "GBLA" ∷ codes "GBLL" ∷ codes "GBLS" ∷ codes "GET"
+    ∷ codes "ENDIF" ∷ codes "EQU" ∷ codes "FIELD" ∷ codes "FN" ∷ codes "GBLA" ∷ codes "GBLL"
+    ∷ codes "GBLS" ∷ codes "GET"
     ∷ codes "GLOBAL" ∷ codes "IF" ∷ codes "IMPORT" ∷ codes "INCBIN" ∷ codes "INCLUDE" ∷ codes "INFO"
     ∷ codes "LCLA" ∷ codes "LCLL" ∷ codes "LCLS" ∷ codes "LEAF" ∷ codes "LIB" ∷ codes "LNK" ∷ codes "LTORG"
     ∷ codes "MACRO" ∷ codes "MAP" ∷ codes "MEND" ∷ codes "MEXIT" ∷ codes "NOFP" ∷ codes "RLIST" ∷ codes "RN"

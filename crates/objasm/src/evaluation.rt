@@ -181,7 +181,8 @@ fn finished(stack: &mut Vec<Waiting>, place: Place) -> Option<Option<Value>>
     }
 }
 
-/// The value of the expression that the symbols are, none where an operator gives none. None where they are none.
+/// The value of the expression that the symbols are, none where an operator gives none. None where they are
+/// none.
 pub(crate) fn evaluated(
     alloc: Global,
     symbols: &[Symbol],

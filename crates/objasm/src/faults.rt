@@ -20,8 +20,8 @@ pub enum LineFault {
     /// A name that is set before, or the label of a line that is a name set.
     #[error("NameTwice")]
     NameTwice,
-    /// A name in an expression that no line sets, or in a line that sets a name none whose value is known; in a
-    /// map none whose value is known above.
+    /// A name in an expression that no line sets, or in a line that sets a name none whose value is known; in
+    /// a map none whose value is known above.
     #[error("NameMissing")]
     NameMissing,
     /// What stands for a number is no expression.
@@ -49,12 +49,18 @@ pub enum LineFault {
     /// What is asserted does not hold.
     #[error("AssertionFailed")]
     AssertionFailed,
-    /// `|` or `]` where no condition is open, or a second `|` of one.
+    /// `|` or `]` where no condition is open.
     #[error("ConditionMissing")]
     ConditionMissing,
-    /// A condition that is open at the end.
+    /// A second `|` of one condition.
+    #[error("ElseTwice")]
+    ElseTwice,
+    /// A condition that is open at the end, at the line that opened it.
     #[error("ConditionOpen")]
     ConditionOpen,
+    /// A condition in more than 63 others.
+    #[error("ConditionTooDeep")]
+    ConditionTooDeep,
 }
 
 impl From<AllocError> for LineFault {
@@ -93,7 +99,9 @@ impl LineFault {
             LineFault::NotLogical => b"NotLogical",
             LineFault::AssertionFailed => b"AssertionFailed",
             LineFault::ConditionMissing => b"ConditionMissing",
+            LineFault::ElseTwice => b"ElseTwice",
             LineFault::ConditionOpen => b"ConditionOpen",
+            LineFault::ConditionTooDeep => b"ConditionTooDeep",
         }
     }
 }

@@ -7,8 +7,8 @@
 //!
 //! No ObjAsm was at hand. The levels of operators follow its manual; what it would give for a division with a
 //! number of 2^31 or more, and for a shift by 32 places or more, was not known, so these are refused.
-//! `specs/Expressions.antt` says what an expression is, and `expressions_are_evaluated` that exactly these are
-//! read, and to their values.
+//! `specs/Expressions.antt` says what an expression is, and `expressions_are_evaluated` that exactly these
+//! are read, and to their values.
 #![tactic(auto)]
 
 mod conditions;

@@ -2,7 +2,8 @@
 
 ghost use Rattle.std.specs.Prelude.{◌≡◌, IfOk, IfErr, OnOk, Ok, map, option_map};
 ghost use Rattle.objasm.specs.Maps.{Named, lone_line, map_line_of, map_set, map_view, named_line, placed};
-ghost use Rattle.objasm.specs.Maps.{register_in, register_named, settled, settled_again, start_line, start_with};
+ghost use Rattle.objasm.specs.Maps.{register_in, register_named, settled, settled_again, start_line};
+ghost use Rattle.objasm.specs.Maps.{start_with};
 ghost use Rattle.objasm.specs.Names.{Told, meanings_of};
 ghost use Rattle.objasm.specs.Parts.{part_of};
 
@@ -146,7 +147,8 @@ fn put_named(
     size: &[Token<'_>],
 ) -> Result<(), LineFault>
     ensures ok { OnOk result
-        (map_set (meanings_of names.old) (Named name.now (map part_of size.now)) ≡ Ok (meanings_of names.new)) }
+        (map_set (meanings_of names.old) (Named name.now (map part_of size.now))
+        ≡ Ok (meanings_of names.new)) }
     ensures fault { IfErr result (λ fault.
         Told fault (map_set (meanings_of names.old) (Named name.now (map part_of size.now)))) }
 {
@@ -165,7 +167,8 @@ fn put_named(
 fn put_map(alloc: Global, names: &mut Names, line: MapLine<'_, '_>) -> Result<(), LineFault>
     ensures ok { OnOk result
         (map_set (meanings_of names.old) (map_view line.entry) ≡ Ok (meanings_of names.new)) }
-    ensures fault { IfErr result (λ fault. Told fault (map_set (meanings_of names.old) (map_view line.entry))) }
+    ensures fault { IfErr result
+        (λ fault. Told fault (map_set (meanings_of names.old) (map_view line.entry))) }
 {
     match line {
         MapLine::Start(at) => {

@@ -3,12 +3,17 @@
 ghost use Rattle.std.specs.Prelude.{◌≡◌, ◌++◌, [], OnOk, IfErr, Ok, decimal, map, option_map};
 ghost use Rattle.objasm.specs.Names.{Told, meanings_of};
 ghost use Rattle.objasm.specs.Parts.{part_of};
-ghost use Rattle.objasm.specs.PlainLines.{address_in, assert_text, behind, body_text, exchanged_text, field_text, hex_literal};
-ghost use Rattle.objasm.specs.PlainLines.{instruction_text, is_address, is_label, is_label_field, is_sum, kind_with};
+ghost use Rattle.objasm.specs.PlainLines.{address_in, assert_text, behind, body_text, exchanged_text};
+ghost use Rattle.objasm.specs.PlainLines.{field_text, hex_literal};
+ghost use Rattle.objasm.specs.PlainLines.{instruction_text, is_address, is_label, is_label_field, is_sum};
+ghost use Rattle.objasm.specs.PlainLines.{kind_with};
 ghost use Rattle.objasm.specs.PlainLines.{literal_at, literal_of, literal_text, lone, nop_text, number_text};
-ghost use Rattle.objasm.specs.PlainLines.{offset_text, operands_text, operation_text, part_text, parts_text, place_text, placed_text, plain_text};
-ghost use Rattle.objasm.specs.PlainLines.{register_text, run_text, spaced_operands, statement_text, stop_text, stops_text};
-ghost use Rattle.objasm.specs.PlainLines.{sum_line, sum_text, unset_text, value_text, word_line, word_with, written, written_so};
+ghost use Rattle.objasm.specs.PlainLines.{offset_text, operands_text, operation_text, part_text, parts_text};
+ghost use Rattle.objasm.specs.PlainLines.{place_text, placed_text, plain_text};
+ghost use Rattle.objasm.specs.PlainLines.{register_text, run_text, spaced_operands, statement_text};
+ghost use Rattle.objasm.specs.PlainLines.{stop_text, stops_text};
+ghost use Rattle.objasm.specs.PlainLines.{sum_line, sum_text, unset_text, value_text, word_line, word_with};
+ghost use Rattle.objasm.specs.PlainLines.{written, written_so};
 ghost use Rattle.objasm.specs.Settings.{setting_of};
 ghost use Rattle.objasm.specs.Words.{sum_word, word_text};
 
@@ -317,18 +322,9 @@ fn put_field(
             Ok(())
         }
         Translation::Value => put_value(alloc, names, tokens, out),
-        Translation::Place => {
-            put_place(names, tokens, out)?;
-            Ok(())
-        }
-        Translation::Sum => {
-            put_sum(names, tokens, out)?;
-            Ok(())
-        }
-        Translation::Parts => {
-            put_parts(names, tokens, out)?;
-            Ok(())
-        }
+        Translation::Place => Ok(put_place(names, tokens, out)?),
+        Translation::Sum => Ok(put_sum(names, tokens, out)?),
+        Translation::Parts => Ok(put_parts(names, tokens, out)?),
     }
 }
 

@@ -187,7 +187,8 @@ pub(crate) fn set_name_again(
     tokens: &[Token<'_>],
 ) -> Result<(), LineFault>
     ensures ok { OnOk result
-        (set_again (meanings_of names.old) (setting_of (map part_of tokens.now)) ≡ Ok (meanings_of names.new)) }
+        (set_again (meanings_of names.old) (setting_of (map part_of tokens.now))
+        ≡ Ok (meanings_of names.new)) }
     ensures fault { IfErr result
         (λ fault. Told fault (set_again (meanings_of names.old) (setting_of (map part_of tokens.now)))) }
 {

@@ -393,8 +393,8 @@ fn translated(alloc: Global, source: &[u8]) -> Result<PlainSource, DialectFault>
 /// # Errors
 ///
 /// The lines are gone through three times: for the names that they set, for those names whose values need one
-/// that a line further down sets, and for what stands for each line. The first line at fault is answered, by the
-/// earliest of these times. `Memory`: an allocation failed.
+/// that a line further down sets, and for what stands for each line. The first line at fault is answered, by
+/// the earliest of these times. `Memory`: an allocation failed.
 pub fn plain_source(alloc: Global, source: &[u8]) -> Result<PlainSource, DialectFault>
     ensures ok { IfOk result (λ p. translated source.now ≡ Ok (plain_of p)) }
     ensures lines { IfOk result

@@ -1,7 +1,8 @@
 //! The words of ObjAsm that have a meaning of their own.
 
 ghost use Rattle.std.specs.Prelude.{◌≡◌, ◌++◌, IfOk, OnOk, map};
-ghost use Rattle.objasm.specs.Words.{cond_place, is_adr, is_assert, is_directive, is_nop, is_one_of, is_silent};
+ghost use Rattle.objasm.specs.Words.{cond_place, is_adr, is_assert, is_directive, is_nop, is_one_of};
+ghost use Rattle.objasm.specs.Words.{is_silent};
 ghost use Rattle.objasm.specs.Words.{kind_of, known_cond, sum_word, word_text};
 
 use crate::exchanges::Flip;

@@ -1,7 +1,5 @@
 ghost use Rattle.std.specs.Prelude.{◌≡◌};
-ghost use Rattle.longest_walk.specs.Folded.{unfolded};
 ghost use Rattle.loop_bounds.specs.Tree.{IsTree};
-ghost use Rattle.walk_counts.specs.Counts.{AreCounts};
 
 use crate::analysis::{accepted_on, image_of};
 use crate::trial::Answer;
@@ -13,7 +11,7 @@ use loop_bounds::Handler;
 use samples::nested_countdown::{SOURCE, STATEMENT};
 use sources::{Source, SourceFile};
 use std::alloc::Global;
-use text_explained::{RowForm, TimedWalk, cost_table};
+use text_explained::{CountedWalk, RowForm, WorstStarts, cost_table};
 use walk_counts::edge_counts;
 
 /// The bound of the nested countdown, by the lines of its source.
@@ -60,19 +58,18 @@ pub(crate) enum ExplainedCall {
 fn table(
     alloc: Global,
     source: &Source<'_>,
-    handler: &Handler<'_>,
-    walk: TimedWalk<'_>,
+    walk: CountedWalk<'_, '_>,
+    starts: WorstStarts<'_>,
     expected: &'static [u8],
 ) -> Answer
-    requires image { handler.now.image.now ≡ source.now.image }
-    requires counts { AreCounts handler.now.graph.edges (unfolded walk.longest.now.walk) walk.counts.now }
+    requires { walk.handler.now.image.now ≡ source.now.image }
 {
     let form = RowForm {
         all: false,
         top: None,
         width: 80,
     };
-    Answer::of_text(cost_table(alloc, source, handler, walk, form), expected)
+    Answer::of_text(cost_table(alloc, source, walk, starts, form), expected)
 }
 
 fn counted(alloc: Global, graph: &Graph, found: &Longest) -> Answer {
@@ -93,17 +90,20 @@ impl ExplainedCall {
         requires tree { IsTree handler.now.graph handler.now.tree }
     {
         let found = longest(alloc, &handler.graph, &handler.tree)?;
-        let starts = NESTED_STARTS;
+        let latest = NESTED_STARTS;
         let counts = edge_counts(alloc, &handler.graph, &found.walk)?;
-        let timed = TimedWalk {
+        let walk = CountedWalk {
+            handler,
             longest: &found,
-            starts: starts.as_slice(),
             counts: &counts,
+        };
+        let starts = WorstStarts {
+            latest: latest.as_slice(),
             first: None,
         };
         match self {
-            ExplainedCall::Lines => Ok(table(alloc, source, handler, timed, NESTED_LINES)),
-            ExplainedCall::Words => Ok(table(alloc, source, handler, timed, NESTED_WORDS)),
+            ExplainedCall::Lines => Ok(table(alloc, source, walk, starts, NESTED_LINES)),
+            ExplainedCall::Words => Ok(table(alloc, source, walk, starts, NESTED_WORDS)),
             ExplainedCall::Counts => Ok(counted(alloc, &handler.graph, &found)),
         }
     }

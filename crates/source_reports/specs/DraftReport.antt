@@ -47,8 +47,8 @@ module _ (source : File) (entry : List ℕ) where
     pub at : ℕ
     pub entry_is : entry_of names entry ≡ Some at
 
-  -- a draft of the handler that begins there, with labels and comments of the source's lines. What it writes as
-  -- proved is
+  -- a draft of the handler that begins there, with labels and comments of the source's lines. What it writes
+  -- as proved is
   pub record IsDraftReport (text : List ℕ) : Type 0 where
     pub read : Source
     pub is_read : IsSource source read
@@ -91,8 +91,8 @@ module _ (source : File) (begun : List ℕ) where
     pub stated : Stated
     pub statement_is : IsStatement (closed begun) names (Ok stated)
 
-  -- a draft on that statement, with labels and comments of the source's lines. What it adds as proved is, where
-  -- what was stated before holds
+  -- a draft on that statement, with labels and comments of the source's lines. What it adds as proved is,
+  -- where what was stated before holds
   pub record IsDraftOnReport (text : List ℕ) : Type 0 where
     pub read : Source
     pub is_read : IsSource source read

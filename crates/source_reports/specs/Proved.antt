@@ -1,5 +1,6 @@
 -- Which classes and counts of a draft are proved.
-use Rattle.std.specs.Prelude.{◌≡◌, ◌⊎◌, ◌==◌, ◌&&◌, ℕ, Bool, true, false, List, [], All, Contains, Some, None, Ok}
+use Rattle.std.specs.Prelude.{◌≡◌, ◌⊎◌, ◌==◌, ◌&&◌, ℕ, Bool, true, false, List, [], All, Contains, Some, None}
+use Rattle.std.specs.Prelude.{Ok}
 use Rattle.std.specs.List.{list_any}
 use Rattle.bus_ticks.specs.declared.profile.Profile.{Profile}
 use Rattle.control_flow.specs.Flow.{Flow}

@@ -132,9 +132,9 @@ fn source_draft_on(
 ///
 /// # Errors
 ///
-/// `Source`, with its line, of a text; `Image` of an image, then `Statement` with the fault of the begun text,
-/// read with the greatest bound or 0 in place of each `"?"`; `Memory`. After any but `Device` nothing was
-/// written.
+/// `Source`, with its line, of a text; `Image` of an image, then `Statement` with the fault of the begun
+/// text, read with the greatest bound or 0 in place of each `"?"`; `Memory`. After any but `Device` nothing
+/// was written.
 pub fn draft_on_report<O: Output>(
     alloc: Global,
     source: SourceFile<'_>,

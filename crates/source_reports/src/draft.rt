@@ -129,10 +129,10 @@ fn source_draft(alloc: Global, source: SourceFile<'_>, entry: &[u8]) -> Result<V
 
 /// Writes a statement of the handler that begins at a label or at an address, to be filled in: with all that
 /// the words reached from there show of its loops, of the targets of words that write R15, and of the classes
-/// of its loads and stores, and with its labels and lines as comments. A count, and a class that its word alone
-/// does not show, is written where it is proved to hold in each run that keeps the rest of the statement as
-/// drafted, where an open bound is the greatest that may be stated; else as a comment, as all are while it is
-/// left open where a word leads. An address is decimal, or hexadecimal after `0x`.
+/// of its loads and stores, and with its labels and lines as comments. A count, and a class that its word
+/// alone does not show, is written where it is proved to hold in each run that keeps the rest of the
+/// statement as drafted, where an open bound is the greatest that may be stated; else as a comment, as all
+/// are while it is left open where a word leads. An address is decimal, or hexadecimal after `0x`.
 ///
 /// # Errors
 ///

@@ -19,8 +19,8 @@ fn plain_text(alloc: Global, source: &[u8]) -> Result<Vec<u8>, ReportFault>
     Ok(plain.text)
 }
 
-/// Writes a source in ObjAsm's dialect as a source in our grammar, one line for each: what stands for the line,
-/// and the line itself as a comment behind it where that is not the same.
+/// Writes a source in ObjAsm's dialect as a source in our grammar, one line for each: what stands for the
+/// line, and the line itself as a comment behind it where that is not the same.
 ///
 /// # Errors
 ///

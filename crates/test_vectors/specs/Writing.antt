@@ -1,5 +1,6 @@
 -- How vectors are put on their way. It is here since clauses of private functions cite it.
-use Rattle.std.specs.Prelude.{◌==◌, ◌≤◌, ℕ, zero, suc, Bool, true, false, List, [], ◌∷◌, ◌++◌, codes, decimal, map}
+use Rattle.std.specs.Prelude.{◌==◌, ◌≤◌, ℕ, zero, suc, Bool, true, false, List, [], ◌∷◌, ◌++◌, codes, decimal}
+use Rattle.std.specs.Prelude.{map}
 use Rattle.std.specs.Prelude.{Option, Some, None}
 use Rattle.bus_ticks.specs.Prices.{ahead_of, word_address}
 use Rattle.arm2_effect.specs.Effects.{FetchN, FetchS, Word}

@@ -9,7 +9,8 @@ ghost use Rattle.json_trace.specs.StepLine.{memory_word};
 ghost use Rattle.test_vectors.specs.Shape.{is_store, shape};
 ghost use Rattle.test_vectors.specs.Vector.{access_object, access_value, internal_object, number_or_null};
 ghost use Rattle.test_vectors.specs.Writing.{refill_objects};
-ghost use Rattle.test_vectors.specs.Writing.{accesses_text, ahead_object, delay_objects, moved_object, moved_objects};
+ghost use Rattle.test_vectors.specs.Writing.{accesses_text, ahead_object, delay_objects, moved_object};
+ghost use Rattle.test_vectors.specs.Writing.{moved_objects};
 
 use crate::bus_use::BusUse;
 use crate::pieces::put_pieces;

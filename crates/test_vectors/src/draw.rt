@@ -5,8 +5,8 @@ ghost use Rattle.std.specs.Prelude.{◌≡◌, ◌<◌};
 use rand_core::Rng;
 use rand_pcg::Pcg32;
 
-/// The draws of one vector: the words of PCG32 from the seed, on the stream of the vector's number. So a vector
-/// depends on the seed and its number alone.
+/// The draws of one vector: the words of PCG32 from the seed, on the stream of the vector's number. So a
+/// vector depends on the seed and its number alone.
 #[derive(Drop)]
 pub(crate) struct Draw {
     rng: Pcg32,

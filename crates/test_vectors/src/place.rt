@@ -3,8 +3,8 @@ ghost use Rattle.bus_ticks.specs.declared.space.TheConstants.{SPACE_END};
 
 use crate::bus_use::BusUse;
 
-/// What a step did on the bus, where it was done, the word that it fetched ahead, if memory has one there, and the
-/// address that is next.
+/// What a step did on the bus, where it was done, the word that it fetched ahead, if memory has one there,
+/// and the address that is next.
 #[derive(Clone, Copy)]
 pub(crate) struct Place {
     pub(crate) done: BusUse,

@@ -22,8 +22,8 @@ pub(crate) struct ShownWord {
     pub(crate) word: Option<u32>,
 }
 
-/// The most words that a vector shows: the step's own, one that is fetched ahead, sixteen that are moved, and two
-/// that are fetched after a jump.
+/// The most words that a vector shows: the step's own, one that is fetched ahead, sixteen that are moved, and
+/// two that are fetched after a jump.
 pub(crate) const MOST_SHOWN: usize = 20;
 
 pub(crate) type ShownWords = ArrayVec<ShownWord, MOST_SHOWN>;

@@ -180,9 +180,9 @@ fn put_vectors<O: Output>(
     }
 }
 
-/// Prints the vectors of a seed, by their numbers from 0 on, as an array of JSON: steps of the machine, in whose
-/// logical RAM each address below 400000 has a word. It takes no memory, however many there are. The vector of a
-/// number is the same however many are asked for; so is its text on every machine.
+/// Prints the vectors of a seed, by their numbers from 0 on, as an array of JSON: steps of the machine, in
+/// whose logical RAM each address below 400000 has a word. It takes no memory, however many there are. The
+/// vector of a number is the same however many are asked for; so is its text on every machine.
 ///
 /// # Errors
 ///

@@ -1,5 +1,6 @@
 -- The loads and stores, and what their classes rest on.
-use Rattle.std.specs.Prelude.{◌≡◌, ◌⊎◌, ℕ, Bool, true, false, if◌then◌else◌, List, All, Option, Some, None, map}
+use Rattle.std.specs.Prelude.{◌≡◌, ◌⊎◌, ℕ, Bool, true, false, if◌then◌else◌, List, All, Option, Some, None}
+use Rattle.std.specs.Prelude.{map}
 use Rattle.arm2_decode.specs.Names.{is_never, is_pc}
 use Rattle.arm2_decode.specs.Writers.{is_transfer}
 use Rattle.arm2_decode.specs.declared.instr.Instr.{Instr}

@@ -95,8 +95,8 @@ stands_for_first (Equals Bound) = codes "1048576"
 stands_for_first _ = codes " "
 
 -- a "?" that is all of the destinations, behind `to =`, is the list [0]; one behind `bound =` the greatest
--- bound, so that it says least; one among the elements of a list the number 0 between blanks. Behind any other
--- `=`, and in a comment, it stays
+-- bound, so that it says least; one among the elements of a list the number 0 between blanks. Behind any
+-- other `=`, and in a comment, it stays
 abbrev pub closed_from : Spot → List ℕ → List ℕ
 closed_from spot [] = []
 closed_from spot (byte ∷ rest) =

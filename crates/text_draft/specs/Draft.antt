@@ -33,8 +33,8 @@ is_full addresses = nat_le MOST_PLACES (length addresses)
 -- what was found at the addresses that are reached from the entry, or at 16,384 of them, and is not stated:
 -- those at which the handler cannot go on, those whose words load or store and have no class, and those whose
 -- words write R15 and have no target, but for words under NV; the addresses that are named there; and loops
--- with other headers. Classes rest on the words in front only where all is looked at and it is left open of no
--- word where it leads. There are rules for many of the loads and stores
+-- with other headers. Classes rest on the words in front only where all is looked at and it is left open of
+-- no word where it leads. There are rules for many of the loads and stores
 pub record AreFound (words : Words) (begun : Option Stated) (entry : ℕ) (full open_left : Bool)
     (ends : List (ℕ × End)) (rules : List FoundRule) (accesses : List FoundAccess) (loops : List FoundLoop)
     (candidates : List ℕ) (targets : List FoundTarget) : Type 0 where
@@ -66,15 +66,19 @@ HasGrades words claims parts =
     AreGraded words claims parts.shown.accesses.items parts.shown.rules.items parts.loops.loops.items
     parts.accesses.items parts.rules.items parts.entries.items parts.counted.items
 
--- the text of what was found. Each label and each comment in it is that of the source's line that has the
--- word at the address: the comment has the line's number and text, and the label is the one that the line or
--- a line before gives the address, if one does. An image has no lines
-pub record IsDraft (source : Source) (entry : ℕ) (claims : Claims) (parts : DraftParts)
-    (text : List ℕ) : Type 0 where
+-- the text of such parts. Each label and each comment in it is that of the source's line that has the word at
+-- the address: the comment has the line's number and text, and the label is the one that the line or a line
+-- before gives the address, if one does. An image has no lines
+pub record IsDraftText (source : Source) (entry : ℕ) (parts : DraftParts) (text : List ℕ) : Type 0 where
   pub lines : BTreeMap ℕ SourceLine
   pub are_lines : AreLines source lines
-  pub found : HasFound source.image None entry parts
-  pub graded : HasGrades source.image claims parts
   pub text_is : text
       ≡ draft_text lines entry parts.full parts.ends.items parts.loops.cycles.items parts.loops.apart.items
       parts.rules.items parts.entries.items parts.counted.items parts.candidates.items parts.targets.items
+
+-- the text of what was found, with what is claimed to be proved
+pub record IsDraft (source : Source) (entry : ℕ) (claims : Claims) (parts : DraftParts)
+    (text : List ℕ) : Type 0 where
+  pub found : HasFound source.image None entry parts
+  pub graded : HasGrades source.image claims parts
+  pub written : IsDraftText source entry parts text

@@ -59,8 +59,8 @@ any_line holds text = holds text || any_behind holds text
 
 -- ## Forms
 
--- rows that stand by themselves; else tables; else none, where nothing of it is stated and no line begins with
--- the key; else another form
+-- rows that stand by themselves; else tables; else none, where nothing of it is stated and no line begins
+-- with the key; else another form
 abbrev pub form_of : (text : List ℕ) → ListKey → (is_stated : Bool) → ListForm
 form_of text key is_stated =
     if any_line (begins_so key RowList) text then Rows

@@ -59,8 +59,8 @@ Shows words at class =
     → is_pc register ≡ true → IsByPc at i.operation class
 
 module _ (words : Words) (open_left : Bool) where
-  -- a rule of the class says of no word more than is known: nothing is left open, and all words that are reached
-  -- were looked at; or each word that it may cover shows the class
+  -- a rule of the class says of no word more than is known: nothing is left open, and all words that are
+  -- reached were looked at; or each word that it may cover shows the class
   abbrev pub MayRule : Register → Class → Type 0
   MayRule register class =
       (open_left ≡ false) ⊎ ((is_pc register ≡ true) × ((at : ℕ) → Shows words at class))

@@ -1,15 +1,13 @@
 //! Drafts on statements that are begun.
 
-ghost use Rattle.std.specs.Prelude.{◌≡◌, ◌++◌, IfOk, OnOk, Some};
+ghost use Rattle.std.specs.Prelude.{◌≡◌, ◌++◌, IfOk, OnOk};
 ghost use Rattle.std.specs.List.{flat_map};
-ghost use Rattle.text_draft.specs.Draft.{HasFound, HasGrades};
-ghost use Rattle.text_draft.specs.DraftOn.{IsDraftOn};
+ghost use Rattle.text_draft.specs.DraftOn.{IsDraftOnText};
 ghost use Rattle.text_draft.specs.DraftOnText.{class_line, draft_on_text, entry_table, front_text, if_absent};
 ghost use Rattle.text_draft.specs.DraftOnText.{has_notes, if_other, is_nothing, loops_text, named_text};
 ghost use Rattle.text_draft.specs.DraftOnText.{note_text, notes_text, other_text};
 ghost use Rattle.text_draft.specs.DraftOnText.{as_tables, aside, aside_head, rule_table, some_aside};
 ghost use Rattle.text_draft.specs.DraftText.{apart_text, entries_text, rules_text};
-ghost use Rattle.text_draft.specs.declared.grounds.Claims.{Claims};
 ghost use Rattle.text_draft.specs.Lacking.{AreRows, AreTables, lacking_of};
 ghost use Rattle.text_draft.specs.declared.forms.ListKey.TheVariants.{Access, Apart, Base, Loop, Target};
 
@@ -422,9 +420,8 @@ pub fn draft_on(
     statement: &Statement,
     found: &DraftParts,
 ) -> Result<Vec<u8>, AllocError>
-    requires { HasFound source.now.image (Some statement.now) statement.now.entry found.now }
-    ensures { IfOk result (λ text. (claims : Claims) → HasGrades source.now.image claims found.now
-        → IsDraftOn source.now begun.now statement.now claims found.now text.items) }
+    ensures { IfOk result
+        (λ text. IsDraftOnText source.now begun.now statement.now found.now text.items) }
 {
     let lines = source.lines(alloc)?;
     text_on(alloc, &Sheet { lines: &lines }, begun, statement, found)

@@ -206,10 +206,10 @@ fn push_closed(new: &mut Vec<u8>, spot: Spot, byte: u8, rest: &[u8]) -> Result<S
     Ok(spot_after(spot, byte))
 }
 
-/// A begun statement as one that can be read, with the same lines. In place of a `"?"` behind `to =` there is a
-/// list with 0 alone, in place of one behind `bound =` the greatest bound that a loop may have, 1,048,576, and
-/// in place of one among the elements of a list 0. A destination 0 stands for what is left open. Behind any
-/// other `=`, and in a comment, a `"?"` stays.
+/// A begun statement as one that can be read, with the same lines. In place of a `"?"` behind `to =` there is
+/// a list with 0 alone, in place of one behind `bound =` the greatest bound that a loop may have, 1,048,576,
+/// and in place of one among the elements of a list 0. A destination 0 stands for what is left open. Behind
+/// any other `=`, and in a comment, a `"?"` stays.
 ///
 /// # Errors
 ///

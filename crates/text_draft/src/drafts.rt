@@ -1,13 +1,11 @@
-ghost use Rattle.std.specs.Prelude.{◌≡◌, ◌++◌, IfOk, List, None, OnOk, Option, Some, ℕ};
+ghost use Rattle.std.specs.Prelude.{◌≡◌, ◌++◌, ℕ, IfOk, None, OnOk, Option, Some};
 ghost use Rattle.std.specs.List.Sorted.{IsStrictlySortedBy};
 ghost use Rattle.std.specs.Ordering.{nat_cmp};
-ghost use Rattle.image.specs.Image.{Words};
 ghost use Rattle.sources.specs.Lines.{AreLines};
 ghost use Rattle.statement.specs.Stated.{Stated};
-ghost use Rattle.text_draft.specs.Draft.{HasFound, HasGrades, IsDraft, is_full};
+ghost use Rattle.text_draft.specs.Draft.{HasFound, HasGrades, IsDraftText, is_full};
 ghost use Rattle.text_draft.specs.DraftText.{draft_text};
 ghost use Rattle.text_draft.specs.Reach.{AreReached};
-ghost use Rattle.text_draft.specs.declared.grounds.Claims.{Claims};
 
 use crate::accesses::{FoundAccess, find_accesses, unclassed_of};
 use crate::begun::Begun;
@@ -135,13 +133,13 @@ fn find(
 /// What the words show of what is to be stated of the handler that begins at an address: its loops, loads and
 /// stores, and the words that write R15.
 ///
-/// The clause says that among the addresses that are reached from the entry, by going on, a branch, a call or a
-/// table of branches, exactly those are found at which the handler cannot go on, the loads and stores, and the
-/// writers of R15 with their tables of branches and whether they return, but for words under NV; which rules
-/// there are for base registers; and that each loop's header lies from its first to its last instruction. Where
-/// more than 16,384 are reached, 16,384 of them are looked at. While it is left open where a word leads, no
-/// class rests on the words in front, and no rule gives a word that was not looked at a class that it does not
-/// show. That the loops are those of the handler is tested only.
+/// The clause says that among the addresses that are reached from the entry, by going on, a branch, a call or
+/// a table of branches, exactly those are found at which the handler cannot go on, the loads and stores, and
+/// the writers of R15 with their tables of branches and whether they return, but for words under NV; which
+/// rules there are for base registers; and that each loop's header lies from its first to its last
+/// instruction. Where more than 16,384 are reached, 16,384 of them are looked at. While it is left open where
+/// a word leads, no class rests on the words in front, and no rule gives a word that was not looked at a
+/// class that it does not show. That the loops are those of the handler is tested only.
 ///
 /// # Errors
 ///
@@ -221,10 +219,8 @@ fn draft_by_lines(
     entry: u32,
     found: &DraftParts,
 ) -> Result<Vec<u8>, AllocError>
-    requires lines { AreLines source.now lines.now }
-    requires found { HasFound source.now.image None entry found.now }
-    ensures { IfOk result (λ text. (claims : Claims) → HasGrades source.now.image claims found.now
-        → IsDraft source.now entry claims found.now text.items) }
+    requires { AreLines source.now lines.now }
+    ensures { IfOk result (λ text. IsDraftText source.now entry found.now text.items) }
 {
     draft_text(alloc, lines, entry, found)
 }
@@ -233,10 +229,10 @@ fn draft_by_lines(
 /// is [claimed](DraftParts::claim) to be proved: its entry, the loops, loads and stores, and the words that
 /// write R15, with the lines of the source as comments.
 ///
-/// The clause says what the text is, and that each label and each comment is that of the source's line that has
-/// the word, by its number, its text and the label that it or a line before gives the address. A load or store
-/// is named by an entry, or by a rule for its base register. A class is written where the word alone shows it,
-/// or a proof is claimed for it, and a count where one is claimed for it; others are comments.
+/// The clause says what the text is, and that each label and each comment is that of the source's line that
+/// has the word, by its number, its text and the label that it or a line before gives the address. A load or
+/// store is named by an entry, or by a rule for its base register. A class is written where the word alone
+/// shows it, or a proof is claimed for it, and a count where one is claimed for it; others are comments.
 ///
 /// # Errors
 ///
@@ -247,9 +243,7 @@ pub fn draft(
     entry: u32,
     found: &DraftParts,
 ) -> Result<Vec<u8>, AllocError>
-    requires { HasFound source.now.image None entry found.now }
-    ensures { IfOk result (λ text. (claims : Claims) → HasGrades source.now.image claims found.now
-        → IsDraft source.now entry claims found.now text.items) }
+    ensures { IfOk result (λ text. IsDraftText source.now entry found.now text.items) }
 {
     let lines = source.lines(alloc)?;
     draft_by_lines(alloc, source, &lines, entry, found)

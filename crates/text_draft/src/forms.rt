@@ -2,7 +2,8 @@
 
 ghost use Rattle.std.specs.Prelude.{◌≡◌, ◌==◌, ◌&&◌, ◌++◌, ◌∷◌, IfOk, OnOk};
 ghost use Rattle.text_draft.specs.Forms.{any_line, begins_so, ends_bare, filled, form_of, forms_of};
-ghost use Rattle.text_draft.specs.Forms.{hashed, is_bare, key_name, opening, opens_rows, rows_for, table_head, with_rows};
+ghost use Rattle.text_draft.specs.Forms.{hashed, is_bare, key_name, opening, opens_rows, rows_for};
+ghost use Rattle.text_draft.specs.Forms.{table_head, with_rows};
 
 use crate::closing::is_blank;
 use statement::Statement;

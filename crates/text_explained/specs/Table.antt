@@ -2,7 +2,8 @@
 -- each.
 use Rattle.std.specs.Prelude.{ℕ, ◌+◌, Bool, ◌==◌, if◌then◌else◌, List, [], ◌∷◌, ◌++◌, find}
 use Rattle.std.specs.Prelude.{flat_map, map}
-use Rattle.std.specs.Prelude.{nat_lt, option_and_then, option_map, sum_by, unwrap_or, Option, Some, None, is_some}
+use Rattle.std.specs.Prelude.{nat_lt, option_and_then, option_map, sum_by, unwrap_or, Option, Some, None}
+use Rattle.std.specs.Prelude.{is_some}
 use Rattle.std.specs.List.{list_any}
 use Rattle.std.specs.Option.{option_or}
 use Rattle.asm_text.specs.Source.{lines_of}

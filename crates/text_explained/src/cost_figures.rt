@@ -3,17 +3,15 @@ ghost use Rattle.std.specs.BTreeMap.{get};
 ghost use Rattle.std.specs.Ordering.{nat_cmp};
 ghost use Rattle.assembler.specs.Assembles.{addresses_from};
 ghost use Rattle.bus_ticks.specs.declared.space.TheConstants.{SPACE_END};
-ghost use Rattle.longest_walk.specs.Folded.{unfolded};
-ghost use Rattle.walk_counts.specs.Counts.{AreCounts};
 ghost use Rattle.text_explained.specs.Costing.{IsCosting, figures_of, first_of};
 ghost use Rattle.text_explained.specs.Table.{first_at, is_passed, line_taken, passes_of, row_figures};
 ghost use Rattle.text_explained.specs.Table.{taken_on, ticks_in, ticks_of, told_at, told_word};
 
+use crate::counted_walk::CountedWalk;
 use crate::pricing::{Pricing, priced};
-use crate::starts::{TimedWalk, latest_starts};
+use crate::starts::{WorstStarts, latest_starts};
 use crate::walk_tally::{Taken, WalkTally};
 use assembler::PlacedLine;
-use loop_bounds::Handler;
 use std::alloc::{AllocError, Global};
 use std::collections::BTreeMap;
 use walk_counts::capped_sum;
@@ -52,21 +50,20 @@ impl<'a> Costing<'a> {
     /// Those of a greatest walk. `AllocError`: an allocation failed.
     pub(crate) fn of_walk(
         alloc: Global,
-        handler: &Handler<'_>,
-        walk: TimedWalk<'a>,
+        walk: CountedWalk<'_, '_>,
+        starts: WorstStarts<'a>,
     ) -> Result<Costing<'a>, AllocError>
-        requires { AreCounts handler.now.graph.edges (unfolded walk.longest.now.walk)
-            walk.counts.now }
         ensures { IfOk result
-            (IsCosting handler.now.image.now handler.now.statement handler.now.graph walk.entry.longest.now
-            walk.entry.starts.now (first_of walk.entry.first)) }
+            (IsCosting walk.entry.handler.now.image.now walk.entry.handler.now.statement
+            walk.entry.handler.now.graph walk.entry.longest.now starts.entry.latest.now
+            (first_of starts.entry.first)) }
     {
-        let tally = WalkTally::of_counts(alloc, &handler.graph, walk.counts)?;
-        let latest = latest_starts(alloc, &handler.graph, walk.starts)?;
-        let prices = priced(alloc, handler)?;
+        let tally = WalkTally::of_counts(alloc, &walk.handler.graph, walk.counts)?;
+        let latest = latest_starts(alloc, &walk.handler.graph, starts.latest)?;
+        let prices = priced(alloc, walk.handler)?;
         Ok(Costing {
             tally,
-            first: walk.first,
+            first: starts.first,
             latest,
             prices,
             bound: walk.longest.bound,

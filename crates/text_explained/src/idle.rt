@@ -8,7 +8,8 @@ ghost use Rattle.control_flow.specs.Kinds.{is_multiply};
 ghost use Rattle.loop_bounds.specs.Instance.{is_back_edge_of};
 ghost use Rattle.text_explained.specs.Idle.{AreIdleEntries, AreIdleRows, EntryCounts, IsConditional};
 ghost use Rattle.text_explained.specs.Idle.{IsEntryRow, IsLoopRow, IsRuleRow, back_of, between, entry_row};
-ghost use Rattle.text_explained.specs.Idle.{are_together, front_of, has_condition, is_with_others, entry_addresses};
+ghost use Rattle.text_explained.specs.Idle.{are_together, front_of, has_condition, is_with_others};
+ghost use Rattle.text_explained.specs.Idle.{entry_addresses};
 ghost use Rattle.text_explained.specs.Idle.{count_unreached, rule_row, together_row};
 ghost use Rattle.text_explained.specs.RuleParts.{AreDoneCoverages};
 ghost use Rattle.text_rows.specs.Rows.{AreRows};
@@ -364,8 +365,8 @@ fn idle_rows(alloc: Global, handler: &Handler<'_>) -> Result<Vec<u8>, AllocError
 /// or store, rules for base registers that cover no word, cycles of words that never multiply, and ways of
 /// words that are not reached or have no condition. Each is named by the address that it names, a loop by its
 /// header's, a stretch by both, and a rule by its register and its part, in the order of the statement. Four
-/// or more that name addresses that are never reached are one row at the end, which says how many. Nothing where
-/// each entry has an effect.
+/// or more that name addresses that are never reached are one row at the end, which says how many. Nothing
+/// where each entry has an effect.
 ///
 /// # Errors
 ///

@@ -2,15 +2,14 @@
 
 ghost use Rattle.std.specs.Prelude.{IfOk};
 ghost use Rattle.longest_walk.specs.Folded.{unfolded};
-ghost use Rattle.walk_counts.specs.Counts.{AreCounts};
 ghost use Rattle.text_explained.specs.Costing.{first_of};
 ghost use Rattle.text_explained.specs.Table.{starts_of};
 ghost use Rattle.text_explained.specs.WalkRows.{AreWalkRows};
 
 use crate::cost_figures::Costing;
-use crate::starts::TimedWalk;
+use crate::counted_walk::CountedWalk;
+use crate::starts::WorstStarts;
 use crate::table_rows::{TableRow, source_rows};
-use loop_bounds::Handler;
 use sources::Source;
 use std::alloc::{AllocError, Global};
 
@@ -23,16 +22,17 @@ use std::alloc::{AllocError, Global};
 pub fn walk_rows<'a>(
     alloc: Global,
     source: &'a Source<'_>,
-    handler: &Handler<'_>,
-    walk: TimedWalk<'_>,
+    walk: CountedWalk<'_, '_>,
+    starts: WorstStarts<'_>,
 ) -> Result<Vec<TableRow<'a>>, AllocError>
-    requires { AreCounts handler.now.graph.edges (unfolded walk.longest.now.walk) walk.counts.now }
     ensures { IfOk result
-        (λ rows. AreWalkRows source.now handler.now.image.now handler.now.statement handler.now.graph
+        (λ rows. AreWalkRows source.now walk.entry.handler.now.image.now
+        walk.entry.handler.now.statement walk.entry.handler.now.graph
         (unfolded walk.entry.longest.now.walk)
-        (starts_of handler.now.graph.places walk.entry.starts.now (first_of walk.entry.first))
+        (starts_of walk.entry.handler.now.graph.places starts.entry.latest.now
+        (first_of starts.entry.first))
         walk.entry.longest.now.bound rows.items) }
 {
-    let costing = Costing::of_walk(alloc, handler, walk)?;
+    let costing = Costing::of_walk(alloc, walk, starts)?;
     source_rows(alloc, &costing, source)
 }

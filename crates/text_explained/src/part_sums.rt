@@ -5,12 +5,10 @@ ghost use Rattle.std.specs.BTreeSet.{contains};
 ghost use Rattle.std.specs.Ordering.{nat_cmp};
 ghost use Rattle.control_flow.specs.declared.edges.Edge.{Edge};
 ghost use Rattle.longest_walk.specs.Folded.{unfolded};
-ghost use Rattle.walk_counts.specs.Counts.{AreCounts};
 ghost use Rattle.text_explained.specs.PartSums.{added_if, sum_in, with_edge, with_part};
 ghost use Rattle.text_explained.specs.Sums.{sum_of};
 
-use control_flow::Graph;
-use longest_walk::Longest;
+use crate::counted_walk::CountedWalk;
 use std::alloc::{AllocError, Global};
 use std::collections::{BTreeMap, BTreeSet};
 use walk_counts::{capped_product, capped_sum};
@@ -69,16 +67,6 @@ pub(crate) trait Parts {
             (λ parts. (n : ℕ) → contains nat_cmp parts n ≡ inside self.now n edge.now) };
 }
 
-/// A greatest walk of a graph, and how often it takes each edge, by
-/// [`edge_counts`](walk_counts::edge_counts).
-#[derive(Clone, Copy)]
-pub struct CountedWalk<'a> {
-    pub graph: &'a Graph,
-    pub longest: &'a Longest,
-    /// By the numbers of the graph's edges.
-    pub counts: &'a [u64],
-}
-
 impl PartSums {
     /// What is taken of the part.
     pub(crate) fn of_part(&self, number: usize) -> PartSum
@@ -134,16 +122,15 @@ impl PartSums {
     /// `AllocError`: an allocation failed.
     pub(crate) fn of_walk<P: Parts>(
         alloc: Global,
-        walk: CountedWalk<'_>,
+        walk: CountedWalk<'_, '_>,
         parts: &P,
     ) -> Result<PartSums, AllocError>
-        requires { AreCounts walk.graph.now.edges (unfolded walk.longest.now.walk) walk.counts.now }
         ensures { IfOk result
             (λ sums. (n : ℕ) → sum_in sums.by_number n
-            ≡ sum_of walk.entry.graph.now (unfolded walk.entry.longest.now.walk) (P.begins parts.now n)
-            (P.inside parts.now n)) }
+            ≡ sum_of walk.entry.handler.now.graph (unfolded walk.entry.longest.now.walk)
+            (P.begins parts.now n) (P.inside parts.now n)) }
     {
-        let edges = walk.graph.edges();
+        let edges = walk.handler.graph.edges();
         let mut sums = PartSums {
             by_number: BTreeMap::new(alloc),
         };

@@ -183,7 +183,8 @@ fn put_cell_text(out: &mut Vec<u8>, line: &TableLine<'_>, column: Column) -> Res
     }
 }
 
-// Makes a buffer what a line has in a column. One buffer serves many cells, so that each takes no memory anew.
+// Makes a buffer what a line has in a column. One buffer serves many cells, so that each takes no memory
+// anew.
 fn fill_cell(buffer: &mut Vec<u8>, line: &TableLine<'_>, column: Column) -> Result<(), AllocError>
     ensures { OnOk result (buffer.new.items ≡ cell_text line.now column) }
 {

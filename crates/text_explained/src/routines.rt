@@ -9,16 +9,15 @@ ghost use Rattle.longest_walk.specs.Folded.{unfolded};
 ghost use Rattle.sources.specs.Lines.{AreLines};
 ghost use Rattle.sources.specs.declared.read.Source.{Source};
 ghost use Rattle.text_rows.specs.Rows.{AreRows};
-ghost use Rattle.walk_counts.specs.Counts.{AreCounts};
 ghost use Rattle.text_explained.specs.PartSums.{in_group};
 ghost use Rattle.text_explained.specs.Sums.{AreRoutineSums, begun_row, calls_from, calls_of, is_call_to};
 ghost use Rattle.text_explained.specs.Sums.{is_site, routine_row};
 
+use crate::counted_walk::CountedWalk;
 use crate::part_groups::{PartGroups, insert_if};
-use crate::part_sums::{CountedWalk, PartSum, PartSums, Parts};
+use crate::part_sums::{PartSum, PartSums, Parts};
 use crate::sums::put_sum;
 use control_flow::{Edge, Graph, Place};
-use image::Image;
 use std::alloc::{AllocError, Global};
 use std::collections::{BTreeMap, BTreeSet};
 use text_rows::{SourceLine, section};
@@ -136,15 +135,14 @@ fn put_begun(
 fn put_routines(
     out: &mut Vec<u8>,
     lines: &BTreeMap<u32, SourceLine<'_>>,
-    walk: CountedWalk<'_>,
+    walk: CountedWalk<'_, '_>,
     routines: &Routines,
     words: &[(u32, u32)],
 ) -> Result<(), AllocError>
-    requires counts { AreCounts walk.graph.now.edges (unfolded walk.longest.now.walk) walk.counts.now }
-    requires called { (site n : ℕ) → in_group routines.now.called_by.by_key site n
-        ≡ is_site walk.graph.now.edges n site }
+    requires { (site n : ℕ) → in_group routines.now.called_by.by_key site n
+        ≡ is_site walk.handler.now.graph.edges n site }
     ensures { OnOk result
-        (Appends (AreRows (λ e row. row ≡ routine_row lines.now walk.entry.graph.now
+        (Appends (AreRows (λ e row. row ≡ routine_row lines.now walk.entry.handler.now.graph
         (unfolded walk.entry.longest.now.walk) walk.entry.longest.now.bound e.0) words.now)
         out.old.items out.new.items) }
 {
@@ -168,16 +166,14 @@ fn put_routines(
 pub fn routine_sums(
     alloc: Global,
     lines: &BTreeMap<u32, SourceLine<'_>>,
-    image: &Image,
-    walk: CountedWalk<'_>,
+    walk: CountedWalk<'_, '_>,
 ) -> Result<Vec<u8>, AllocError>
-    requires { AreCounts walk.graph.now.edges (unfolded walk.longest.now.walk) walk.counts.now }
     ensures { (source : Source) → AreLines source lines.now → IfOk result
-        (λ text. AreRoutineSums source image.now walk.entry.graph.now
+        (λ text. AreRoutineSums source walk.entry.handler.now.image.now walk.entry.handler.now.graph
         (unfolded walk.entry.longest.now.walk) walk.entry.longest.now.bound text.items) }
 {
-    let routines = Routines::of_graph(alloc, walk.graph)?;
-    let words = image.listed(alloc)?;
+    let routines = Routines::of_graph(alloc, &walk.handler.graph)?;
+    let words = walk.handler.image.listed(alloc)?;
     let mut rows = Vec::new(alloc);
     put_routines(&mut rows, lines, walk, &routines, &words)?;
     section(

@@ -4,20 +4,14 @@ ghost use Rattle.std.specs.Ordering.{nat_cmp};
 ghost use Rattle.text_explained.specs.Starts.{Begins, later, latest_at};
 
 use control_flow::{Graph, Place};
-use longest_walk::Longest;
 use std::alloc::{AllocError, Global};
 use std::collections::BTreeMap;
 
-/// A greatest walk, how often it takes each edge, and when the places of its graph begin at the latest.
+/// When the places of a handler's graph begin at the latest, in ticks from the handler's beginning.
 #[derive(Clone, Copy)]
-pub struct TimedWalk<'a> {
-    pub longest: &'a Longest,
-    /// The worst start of each place of the graph, in their order, in ticks from the handler's beginning
-    /// ([`worst_starts`](longest_walk::worst_starts)).
-    pub starts: &'a [u64],
-    /// How often the walk takes each edge of the graph, in their order
-    /// ([`edge_counts`](walk_counts::edge_counts)).
-    pub counts: &'a [u64],
+pub struct WorstStarts<'a> {
+    /// That of each place of the graph, in their order ([`worst_starts`](longest_walk::worst_starts)).
+    pub latest: &'a [u64],
     /// By the addresses where the graph has a place the greatest ticks after which a walk comes there for the
     /// first time; None where that is not asked for.
     pub first: Option<&'a BTreeMap<u32, u64>>,

@@ -8,13 +8,12 @@ ghost use Rattle.sources.specs.declared.read.Source.{Source};
 ghost use Rattle.text_rows.specs.Addresses.{name_text};
 ghost use Rattle.text_rows.specs.Rows.{AreRows};
 ghost use Rattle.text_rows.specs.WordLines.{label_at};
-ghost use Rattle.walk_counts.specs.Counts.{AreCounts};
 ghost use Rattle.text_explained.specs.Sums.{AreLoopSums, loop_sum, sum_row};
 
 use crate::cost_columns::{put_ending, share_text};
+use crate::counted_walk::CountedWalk;
 use crate::loop_table::LoopTable;
-use crate::part_sums::{CountedWalk, PartSum, PartSums};
-use loop_bounds::Handler;
+use crate::part_sums::{PartSum, PartSums};
 use std::alloc::{AllocError, Global};
 use std::collections::BTreeMap;
 use text_rows::{SourceLine, put, put_labelled, put_number, section};
@@ -57,12 +56,11 @@ fn put_loops(
     out: &mut Vec<u8>,
     lines: &BTreeMap<u32, SourceLine<'_>>,
     table: &LoopTable<'_>,
-    walk: CountedWalk<'_>,
+    walk: CountedWalk<'_, '_>,
 ) -> Result<(), AllocError>
-    requires { AreCounts walk.graph.now.edges (unfolded walk.longest.now.walk) walk.counts.now }
     ensures { OnOk result
         (Appends (AreRows (λ l row. row ≡ sum_row lines.now walk.entry.longest.now.bound l.header
-        (loop_sum table.now.apart.now walk.entry.graph.now (unfolded walk.entry.longest.now.walk) l))
+        (loop_sum table.now.apart.now walk.entry.handler.now.graph (unfolded walk.entry.longest.now.walk) l))
         table.now.loops.now) out.old.items out.new.items) }
 {
     let sums = PartSums::of_walk(*out.allocator(), walk, table)?;
@@ -86,15 +84,13 @@ fn put_loops(
 pub fn loop_sums(
     alloc: Global,
     lines: &BTreeMap<u32, SourceLine<'_>>,
-    handler: &Handler<'_>,
-    walk: CountedWalk<'_>,
+    walk: CountedWalk<'_, '_>,
 ) -> Result<Vec<u8>, AllocError>
-    requires { AreCounts walk.graph.now.edges (unfolded walk.longest.now.walk) walk.counts.now }
     ensures { (source : Source) → AreLines source lines.now → IfOk result
-        (λ text. AreLoopSums source handler.now.statement.loops walk.entry.graph.now
+        (λ text. AreLoopSums source walk.entry.handler.now.statement.loops walk.entry.handler.now.graph
         (unfolded walk.entry.longest.now.walk) walk.entry.longest.now.bound text.items) }
 {
-    let loops = handler.statement.loops();
+    let loops = walk.handler.statement.loops();
     let table = LoopTable::new(alloc, loops.apart(), loops.list())?;
     let mut rows = Vec::new(alloc);
     put_loops(&mut rows, lines, &table, walk)?;

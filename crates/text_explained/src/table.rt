@@ -4,7 +4,6 @@ ghost use Rattle.std.specs.Prelude.{◌≡◌, IfOk};
 ghost use Rattle.std.specs.BTreeMap.{get};
 ghost use Rattle.std.specs.Ordering.{nat_cmp};
 ghost use Rattle.longest_walk.specs.Folded.{unfolded};
-ghost use Rattle.walk_counts.specs.Counts.{AreCounts};
 ghost use Rattle.text_explained.specs.Costing.{figures_of, first_of};
 ghost use Rattle.text_explained.specs.Dearest.{is_unfolded};
 ghost use Rattle.text_explained.specs.Printed.{AreLines, IsTable, IsTableOf, has_lines};
@@ -12,15 +11,15 @@ ghost use Rattle.text_explained.specs.Table.{all_ticks, source_ticks, starts_of}
 
 use crate::cost_columns::{Column, other_columns, put_bound};
 use crate::cost_figures::{Costing, ticks_in};
+use crate::counted_walk::CountedWalk;
 use crate::dearest::keep_dearest;
 use crate::folding::{TableLine, Total, put_shown};
 use crate::image_rows::image_ticks;
 use crate::printed_rows::{Layout, put_lines, widths_of};
-use crate::starts::TimedWalk;
+use crate::starts::WorstStarts;
 use crate::table_rows::{TableRow, source_rows};
 use crate::walk_tally::WalkTally;
 use assembler::PlacedLine;
-use loop_bounds::Handler;
 use sources::{Source, SourceText};
 use std::alloc::{AllocError, Global};
 use walk_counts::capped_sum;
@@ -161,17 +160,18 @@ fn costed_table(
 pub fn cost_table(
     alloc: Global,
     source: &Source<'_>,
-    handler: &Handler<'_>,
-    walk: TimedWalk<'_>,
+    walk: CountedWalk<'_, '_>,
+    starts: WorstStarts<'_>,
     form: RowForm,
 ) -> Result<Vec<u8>, AllocError>
-    requires { AreCounts handler.now.graph.edges (unfolded walk.longest.now.walk) walk.counts.now }
     ensures { IfOk result
-        (λ text. IsTable source.now handler.now.image.now handler.now.statement handler.now.graph
+        (λ text. IsTable source.now walk.entry.handler.now.image.now
+        walk.entry.handler.now.statement walk.entry.handler.now.graph
         (unfolded walk.entry.longest.now.walk)
-        (starts_of handler.now.graph.places walk.entry.starts.now (first_of walk.entry.first))
+        (starts_of walk.entry.handler.now.graph.places starts.entry.latest.now
+        (first_of starts.entry.first))
         walk.entry.longest.now.bound form text.items) }
 {
-    let costing = Costing::of_walk(alloc, handler, walk)?;
+    let costing = Costing::of_walk(alloc, walk, starts)?;
     costed_table(alloc, source, &costing, form)
 }

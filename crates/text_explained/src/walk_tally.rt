@@ -140,8 +140,8 @@ impl WalkTally {
         WalkTally::of_counts(alloc, graph, &counts)
     }
 
-    /// What a walk takes at the graph's places that takes each edge so many times. `AllocError`: an allocation
-    /// failed.
+    /// What a walk takes at the graph's places that takes each edge so many times. `AllocError`: an
+    /// allocation failed.
     pub(crate) fn of_counts(
         alloc: Global,
         graph: &Graph,

@@ -16,8 +16,8 @@ use Rattle.statement.specs.declared.stated.Loop.{Loop}
 use Rattle.text_rows.specs.WordLines.{Numbered}
 use Rattle.text_explained.specs.declared.table_rows.TableRow.{TableRow}
 
--- by addresses: the words, their labels, the bound of the loop whose header is there, the target that is stated
--- there, and whether the page has a row there
+-- by addresses: the words, their labels, the bound of the loop whose header is there, the target that is
+-- stated there, and whether the page has a row there
 pub record Noted : Type 0 where
   pub word : ℕ → Option ℕ
   pub label : ℕ → List ℕ

@@ -3,7 +3,8 @@
 ghost use Rattle.std.specs.Prelude.{◌≡◌, ◌++◌, OnOk, decimal};
 ghost use Rattle.asm_text.specs.Hex.{hex};
 ghost use Rattle.text_explained.specs.Columns.{share_text};
-ghost use Rattle.text_page.specs.Rows.{address_link, anchor, bar, cell, cells, row_class, row_front, row_link};
+ghost use Rattle.text_page.specs.Rows.{address_link, anchor, bar, cell, cells, row_class, row_front};
+ghost use Rattle.text_page.specs.Rows.{row_link};
 ghost use Rattle.text_page.specs.Noting.{noted_in};
 ghost use Rattle.text_page.specs.Rows.{row_tag, taken_cells};
 

@@ -1,6 +1,5 @@
 ghost use Rattle.std.specs.Prelude.{◌≡◌, IfOk};
 ghost use Rattle.longest_walk.specs.Folded.{unfolded};
-ghost use Rattle.walk_counts.specs.Counts.{AreCounts};
 ghost use Rattle.text_explained.specs.Costing.{first_of};
 ghost use Rattle.text_explained.specs.Table.{starts_of};
 ghost use Rattle.text_page.specs.Page.{IsPage};
@@ -10,10 +9,9 @@ use crate::heading::{put_heading, put_names};
 use crate::listing::{keep_shown, put_lines};
 use crate::notes::Notes;
 use crate::page_lines::page_lines;
-use loop_bounds::Handler;
 use sources::Source;
 use std::alloc::{AllocError, Global};
-use text_explained::{TimedWalk, walk_rows};
+use text_explained::{CountedWalk, WorstStarts, walk_rows};
 use text_graph::Extent;
 use text_rows::put;
 
@@ -34,19 +32,20 @@ use text_rows::put;
 pub fn page(
     alloc: Global,
     source: &Source<'_>,
-    handler: &Handler<'_>,
-    walk: TimedWalk<'_>,
+    walk: CountedWalk<'_, '_>,
+    starts: WorstStarts<'_>,
     extent: Extent,
 ) -> Result<Vec<u8>, AllocError>
-    requires { AreCounts handler.now.graph.edges (unfolded walk.longest.now.walk) walk.counts.now }
     ensures { IfOk result
-        (λ text. IsPage source.now handler.now.image.now handler.now.statement handler.now.graph
-        (unfolded walk.entry.longest.now.walk)
-        (starts_of handler.now.graph.places walk.entry.starts.now (first_of walk.entry.first))
+        (λ text. IsPage source.now walk.entry.handler.now.image.now walk.entry.handler.now.statement
+        walk.entry.handler.now.graph (unfolded walk.entry.longest.now.walk)
+        (starts_of walk.entry.handler.now.graph.places starts.entry.latest.now
+        (first_of starts.entry.first))
         walk.entry.longest.now.bound extent text.items) }
 {
+    let handler = walk.handler;
     let lines = source.lines(alloc)?;
-    let mut rows = walk_rows(alloc, source, handler, walk)?;
+    let mut rows = walk_rows(alloc, source, walk, starts)?;
     keep_shown(&mut rows, extent);
     let notes = Notes::new(alloc, handler, &lines, &rows)?;
     let foldable = Foldable::new(alloc, handler)?;

@@ -89,8 +89,8 @@ together_row list =
 abbrev pub total_row : List Saving → List ℕ
 total_row list = if nat_le (length list) 1 then [] else together_row list
 
--- a row for each saving, at a word of an image or on the way out, under the heading, by the lines of a source,
--- and last what they save together; nothing where there are none
+-- a row for each saving, at a word of an image or on the way out, under the heading, by the lines of a
+-- source, and last what they save together; nothing where there are none
 pub record IsSavingsText (source : Source) (image : Words) (st : Stated) (flow : Flow) (walk : List Edge)
     (text : List ℕ) : Type 0 where
   pub list : List Saving

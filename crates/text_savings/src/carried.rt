@@ -1,6 +1,5 @@
 ghost use Rattle.std.specs.Prelude.{◌≡◌, IfOk, OnOk};
 ghost use Rattle.longest_walk.specs.Folded.{unfolded};
-ghost use Rattle.walk_counts.specs.Counts.{AreCounts};
 ghost use Rattle.text_savings.specs.Carried.{Adds, AreTimes, times_in};
 
 use control_flow::{Edge, Label, Place};
@@ -34,13 +33,12 @@ fn add(times: &mut BTreeMap<u32, u64>, edge: &Edge, count: u64) -> Result<(), Al
 /// How often the walk carries out the word at each address. `AllocError`: an allocation failed.
 pub(crate) fn times_carried_out(
     alloc: Global,
-    walk: CountedWalk<'_>,
+    walk: CountedWalk<'_, '_>,
 ) -> Result<BTreeMap<u32, u64>, AllocError>
-    requires { AreCounts walk.graph.now.edges (unfolded walk.longest.now.walk) walk.counts.now }
     ensures { IfOk result
-        (AreTimes walk.entry.graph.now.edges (unfolded walk.entry.longest.now.walk)) }
+        (AreTimes walk.entry.handler.now.graph.edges (unfolded walk.entry.longest.now.walk)) }
 {
-    let edges = walk.graph.edges();
+    let edges = walk.handler.graph.edges();
     let mut times = BTreeMap::new(alloc);
     for number in 0..edges.len() {
         add(&mut times, &edges[number], walk.counts[number])?;

@@ -1,6 +1,5 @@
 ghost use Rattle.std.specs.Prelude.{◌≡◌, ◌++◌, IfOk, OnOk};
 ghost use Rattle.longest_walk.specs.Folded.{unfolded};
-ghost use Rattle.walk_counts.specs.Counts.{AreCounts};
 ghost use Rattle.text_savings.specs.Carried.{times_in};
 ghost use Rattle.asm_text.specs.Appended.{Appends};
 ghost use Rattle.text_rows.specs.Rows.{AreRows};
@@ -11,7 +10,6 @@ use crate::carried::{times_carried_out, times_in};
 use crate::gains::{Gain, Refinement, leave_gain, operation_gain};
 use arm2_decode::decode;
 use bus_ticks::Profile;
-use loop_bounds::Handler;
 use statement::Statement;
 use std::alloc::{AllocError, Global};
 use std::cmp::Reverse;
@@ -113,19 +111,15 @@ fn saved_at(
 }
 
 // What is saved at each word, and then on the way out.
-fn found_savings(
-    alloc: Global,
-    handler: &Handler<'_>,
-    walk: CountedWalk<'_>,
-) -> Result<Vec<Saving>, AllocError>
-    requires { AreCounts walk.graph.now.edges (unfolded walk.longest.now.walk) walk.counts.now }
+fn found_savings(alloc: Global, walk: CountedWalk<'_, '_>) -> Result<Vec<Saving>, AllocError>
     ensures { IfOk result
-        (λ found. AreFound handler.now.image.now handler.now.statement walk.entry.graph.now
-        (unfolded walk.entry.longest.now.walk) found.items) }
+        (λ found. AreFound walk.entry.handler.now.image.now walk.entry.handler.now.statement
+        walk.entry.handler.now.graph (unfolded walk.entry.longest.now.walk) found.items) }
 {
+    let handler = walk.handler;
     let times = times_carried_out(alloc, walk)?;
     let words = handler.image.listed(alloc)?;
-    let profile = walk.graph.profile();
+    let profile = handler.graph.profile();
     let carried = Carried {
         statement: &handler.statement,
         profile: &profile,
@@ -152,17 +146,12 @@ fn found_savings(
 /// # Errors
 ///
 /// An allocation failed.
-pub(crate) fn savings(
-    alloc: Global,
-    handler: &Handler<'_>,
-    walk: CountedWalk<'_>,
-) -> Result<Vec<Saving>, AllocError>
-    requires { AreCounts walk.graph.now.edges (unfolded walk.longest.now.walk) walk.counts.now }
+pub(crate) fn savings(alloc: Global, walk: CountedWalk<'_, '_>) -> Result<Vec<Saving>, AllocError>
     ensures { IfOk result
-        (λ list. AreSavings handler.now.image.now handler.now.statement walk.entry.graph.now
-        (unfolded walk.entry.longest.now.walk) list.items) }
+        (λ list. AreSavings walk.entry.handler.now.image.now walk.entry.handler.now.statement
+        walk.entry.handler.now.graph (unfolded walk.entry.longest.now.walk) list.items) }
 {
-    let mut list = found_savings(alloc, handler, walk)?;
+    let mut list = found_savings(alloc, walk)?;
     list.sort_by_key(|saving| Reverse(saving.ticks))?;
     Ok(list)
 }

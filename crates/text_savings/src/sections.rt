@@ -1,7 +1,6 @@
 ghost use Rattle.std.specs.Prelude.{◌≡◌, ◌++◌, ℕ, List, IfOk, OnOk};
 ghost use Rattle.longest_walk.specs.Folded.{unfolded};
 ghost use Rattle.sources.specs.Lines.{AreLines};
-ghost use Rattle.walk_counts.specs.Counts.{AreCounts};
 ghost use Rattle.asm_text.specs.Appended.{Appends};
 ghost use Rattle.text_rows.specs.Rows.{AreRows};
 ghost use Rattle.text_savings.specs.Sections.{AreSavingRows, IsImageEnd, IsLineEnd, IsSavingRow};
@@ -12,7 +11,6 @@ ghost use Rattle.text_rows.specs.WordLines.{numbered_at};
 
 use crate::gains::{Operands, Refinement};
 use crate::saving::{Saving, Subject, savings, together};
-use loop_bounds::Handler;
 use sources::{Source, SourceText};
 use statement::class_name;
 use std::alloc::{AllocError, Global};
@@ -148,8 +146,8 @@ fn source_rows(
     lines: &BTreeMap<u32, SourceLine<'_>>,
     list: &[Saving],
 ) -> Result<Vec<u8>, AllocError>
-    requires { AreLines source.now lines.now }
-    ensures { IfOk result (λ rows. AreSavingRows source.now list.now rows.items) }
+    ensures { AreLines source.now lines.now → IfOk result
+        (λ rows. AreSavingRows source.now list.now rows.items) }
 {
     match &source.text {
         SourceText::Lines(_, _) => rows_of(alloc, lines, list),
@@ -190,16 +188,14 @@ pub fn savings_text(
     alloc: Global,
     source: &Source<'_>,
     lines: &BTreeMap<u32, SourceLine<'_>>,
-    handler: &Handler<'_>,
-    walk: CountedWalk<'_>,
+    walk: CountedWalk<'_, '_>,
 ) -> Result<Vec<u8>, AllocError>
-    requires lines { AreLines source.now lines.now }
-    requires counts { AreCounts walk.graph.now.edges (unfolded walk.longest.now.walk) walk.counts.now }
-    ensures { IfOk result
-        (λ text. IsSavingsText source.now handler.now.image.now handler.now.statement walk.entry.graph.now
+    ensures { AreLines source.now lines.now → IfOk result
+        (λ text. IsSavingsText source.now walk.entry.handler.now.image.now
+        walk.entry.handler.now.statement walk.entry.handler.now.graph
         (unfolded walk.entry.longest.now.walk) text.items) }
 {
-    let list = savings(alloc, handler, walk)?;
+    let list = savings(alloc, walk)?;
     let mut rows = source_rows(alloc, source, lines, &list)?;
     put_total(&mut rows, &list)?;
     section(alloc, HEADING, &rows)

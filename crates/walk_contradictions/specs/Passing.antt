@@ -1,5 +1,5 @@
--- How the outcomes are carried along a walk, from its first edge on or from its last one back. No part of what
--- is reported: clauses of private functions cite these.
+-- How the outcomes are carried along a walk, from its first edge on or from its last one back. No part of
+-- what is reported: clauses of private functions cite these.
 use Rattle.std.specs.Prelude.{◌≡◌, ◌↔◌, ◌⊎◌, ℕ, Bool, true, false, if◌then◌else◌, List, [], ◌∷◌, reverse}
 use Rattle.std.specs.Prelude.{slice_index_or, IfSome, IsTrue, Some}
 use Rattle.arm2_decode.specs.Names.{cond_number}

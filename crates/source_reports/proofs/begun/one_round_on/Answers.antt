@@ -1,4 +1,4 @@
-use Rattle.std.proofs.Common.{subst}
+use Rattle.std.proofs.Common.{Some, subst}
 use Rattle.source_reports.specs.Proved.{IsProved}
 use Rattle.source_reports.proofs.begun.one_round_on.Goals as goal
 
@@ -8,6 +8,6 @@ returns-in_default-clause-draft c =
     record {
       claims = claims;
       parts = c.claim.new.self;
-      is_draft = c.in_ok-text.ensures claims c.in_ok-claim.ensures.graded;
+      is_draft = record { found = c.in_ok-claim.ensures.kept (Some c.args.statement.now) c.args.statement.now.entry c.requires.found; graded = c.in_ok-claim.ensures.graded; written = c.in_ok-text.ensures };
       proved = subst (λ t. IsProved c.args.read.now t c.claim.new.self) c.deref.ensures.value (c.in_ok-left.ensures.proved c.in_default.is);
     }

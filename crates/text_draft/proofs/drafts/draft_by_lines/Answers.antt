@@ -4,11 +4,9 @@ use Rattle.text_draft.proofs.drafts.draft_by_lines.Goals as goal
 pub returns : goal.returns
 returns c =
     IfOk-weaker c.draft_text.result _ _
-    (λ text text_is. λ claims graded. record {
+    (λ text text_is. record {
       lines = c.args.lines.now;
-      are_lines = c.requires.lines;
-      found = c.requires.found;
-      graded = graded;
+      are_lines = c.requires;
       text_is = text_is;
     })
     c.draft_text.ensures

@@ -9,10 +9,10 @@ use Rattle.text_explained.proofs.table.cost_table.Goals as goal
 
 pub returns : goal.returns
 returns c =
-    let handler = c.args.handler.now in
+    let handler = c.args.walk.handler.now in
     let longest = c.args.walk.longest.now in
-    let starts = c.args.walk.starts.now in
-    let first = first_of c.args.walk.first in
+    let starts = c.args.starts.latest.now in
+    let first = first_of c.args.starts.first in
     let costing = c.in_ok-costing.costing in
     let is = c.in_ok-costing.ensures in
     let prices = get nat_cmp costing.prices in

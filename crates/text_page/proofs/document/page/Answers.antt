@@ -14,9 +14,9 @@ use Rattle.text_page.proofs.document.page.Goals as goal
 pub returns : goal.returns
 returns c =
     let source = c.args.source.now in
-    let image = c.args.handler.now.image.now in
-    let st = c.args.handler.now.statement in
-    let flow = c.args.handler.now.graph in
+    let image = c.args.walk.handler.now.image.now in
+    let st = c.args.walk.handler.now.statement in
+    let flow = c.args.walk.handler.now.graph in
     let entry = st.entry in
     let bound = c.args.walk.longest.now.bound in
     let put = c.in_ok-put_lines.ensures in

@@ -11,5 +11,5 @@ loop-number-preserved c =
     let i = c.loop-number.number in
     let e = c.index-edges-number.result in
     let lt = subst (λ (es : List Edge). i < length es) c.edges-edges.ensures.value c.loop-number-test.true in
-    one_added walk.graph.now.edges (unfolded walk.longest.now.walk) i e (slice_index walk.counts.now i) c.loop-number.times c.add.new.times lt
-    (c.index-edges-number.is ∙ ap (λ (es : List Edge). get_or es i e) c.edges-edges.ensures.value) (c.requires.each i lt) c.loop-number.invariant c.in_ok-add.ensures
+    one_added walk.handler.now.graph.edges (unfolded walk.longest.now.walk) i e (slice_index walk.counts.now i) c.loop-number.times c.add.new.times lt
+    (c.index-edges-number.is ∙ ap (λ (es : List Edge). get_or es i e) c.edges-edges.ensures.value) (walk.counted.each i lt) c.loop-number.invariant c.in_ok-add.ensures

@@ -11,7 +11,7 @@ use Rattle.text_savings.proofs.saving.found_savings.Goals as goal
 
 pub returns : goal.returns
 returns c =
-    all_found c.args.handler.now.image.now c.deref.result.now c.args.handler.now.statement c.args.walk.graph.now c.profile-profile.result (unfolded c.args.walk.longest.now.walk)
+    all_found c.args.walk.handler.now.image.now c.deref.result.now c.args.walk.handler.now.statement c.args.walk.handler.now.graph c.profile-profile.result (unfolded c.args.walk.longest.now.walk)
     (times_in c.in_ok-times.times) c.in_ok-found.found.items c.push_saved.new.found.items (λ i a. c.in_ok-times.ensures a i) c.profile-profile.ensures.value
     (c.deref.ensures.value ∙ c.in_ok-words.ensures.words) c.in_ok-found.ensures
     (c.in_ok-push_saved.ensures ∙ ap (λ (g : Option Gain). c.in_ok-found.found.items ++ saved Leave 1 g)
