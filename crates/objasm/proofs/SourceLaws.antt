@@ -1,7 +1,7 @@
 -- The lines of a source, one after the other.
 use Rattle.std.proofs.Common.{◌≡◌, ◌+◌, inl, inr, ℕ, List, [], ◌∷◌, ◌++◌, length, append_assoc, Result, Ok, refl, sym, ap, subst, ◌∙◌, Err}
 use Rattle.asm_text.specs.Source.{lines_of}
-use Rattle.std.specs.Prelude.{IfOk, Bool, true, false, ◌||◌}
+use Rattle.std.specs.Prelude.{IfOk, IfErr, OnOk, Bool, true, false, ◌||◌}
 use Rattle.std.specs.List.{range_with_len}
 use Rattle.std.proofs.lemmas.List.{append-nil}
 use Rattle.asm_text.proofs.WordLaws.{same_Ok}
@@ -49,8 +49,15 @@ unfolding settings
 settings_end k f n rest whole is before = sym before ∙ ap (λ (ls : List (List ℕ)). settings k f n ls) is
 
 -- what is said of the end is said of the whole
-pub faulted_so : (fault : DialectFault) (whole r : Result Meanings (LineFault × ℕ)) → whole ≡ r → FaultedAt fault r → FaultedAt fault whole
-faulted_so fault whole r is told = subst (λ (q : Result Meanings (LineFault × ℕ)). FaultedAt fault q) (sym is) told
+pub ended_ok : {A : Type 0} (r : Result A DialectFault) (cs : Conditions) (m : Meanings) (whole : Result Meanings (LineFault × ℕ)) → OnOk r ((k : Meanings) → all_closed cs k ≡ Ok k)
+    → whole ≡ all_closed cs m → OnOk r (whole ≡ Ok m)
+ended_ok (Ok a) cs m whole closed is = is ∙ closed m
+ended_ok (Err fault) cs m whole closed is = tt
+
+pub ended_fault : {A : Type 0} (r : Result A DialectFault) (cs : Conditions) (m : Meanings) (whole : Result Meanings (LineFault × ℕ)) → IfErr r (λ fault. (k : Meanings) → FaultedAt fault (all_closed cs k))
+    → whole ≡ all_closed cs m → IfErr r (λ fault. FaultedAt fault whole)
+ended_fault (Ok a) cs m whole told is = tt
+ended_fault (Err fault) cs m whole told is = subst (λ (q : Result Meanings (LineFault × ℕ)). FaultedAt fault q) (sym is) (told m)
 
 -- lines behind those that are there
 abbrev pub after : Plain → Result Plain (LineFault × ℕ) → Result Plain (LineFault × ℕ)

@@ -95,13 +95,15 @@ shown_behind done r = mapped (λ s. (s.0, done ++ s.1)) r
 
 abbrev pub taken_line : Flow → ℕ → List Part → List ℕ → Shown
 taken_line f n ps text =
-    and_then (λ next. mapped (λ t. (next, t)) (shown_text text (plain_body (is_hidden f.conditions ps) f.names ps)))
+    and_then
+    (λ next. mapped (λ t. (next, t)) (shown_text text (plain_body (is_hidden f.conditions ps) f.names ps)))
     (conditions_after f.names n f.conditions ps)
 
 -- conditions below the end are none
 abbrev pub line_shown : Bool → Flow → ℕ → List ℕ → Shown
 line_shown ended f n text =
-    if ended then mapped (λ t. (f.conditions, t)) (shown_text text (Ok [])) else taken_line f n (parts (body text)) text
+    if ended then mapped (λ t. (f.conditions, t)) (shown_text text (Ok []))
+    else taken_line f n (parts (body text)) text
 
 -- ## All lines
 
@@ -121,7 +123,8 @@ settings pass f n (l ∷ ls) =
 -- what the names of all lines mean: a name may be used above the line that sets it, also by a line that sets
 -- another, which is then read again
 abbrev pub meanings_in : List (List ℕ) → Result Meanings (LineFault × ℕ)
-meanings_in ls = and_then (λ m. settings Second (flow_in m []) 1 ls) (settings First (flow_in no_meanings []) 1 ls)
+meanings_in ls =
+    and_then (λ m. settings Second (flow_in m []) 1 ls) (settings First (flow_in no_meanings []) 1 ls)
 
 -- lines of our grammar, each ended by LF, and the number of the line that each comes from
 pub record Plain : Type 0 where

@@ -21,7 +21,7 @@ pub enum LineFault {
     #[error("NameTwice")]
     NameTwice,
     /// A name in an expression that no line sets, or in a line that sets a name none whose value is known; in
-    /// a map none whose value is known above.
+    /// a map and a condition none whose value is known above.
     #[error("NameMissing")]
     NameMissing,
     /// What stands for a number is no expression.
@@ -37,7 +37,7 @@ pub enum LineFault {
     /// A register of a number above 15, or no register behind the comma of a map.
     #[error("BadRegister")]
     BadRegister,
-    /// Operands behind a word that takes none.
+    /// Something behind a word or a sign that takes nothing.
     #[error("BadOperand")]
     BadOperand,
     /// The value of a comparison where a number stands, or a name with a base register.
@@ -58,7 +58,7 @@ pub enum LineFault {
     /// A condition that is open at the end, at the line that opened it.
     #[error("ConditionOpen")]
     ConditionOpen,
-    /// A condition in more than 63 others.
+    /// A condition inside 64 others.
     #[error("ConditionTooDeep")]
     ConditionTooDeep,
 }

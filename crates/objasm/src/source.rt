@@ -1,18 +1,21 @@
-ghost use Rattle.std.specs.Prelude.{◌≡◌, ◌≤◌, ◌||◌, ◌∷◌, ◌++◌, [], false, IfOk, IfErr, OnOk, Ok, length, map, reverse};
+ghost use Rattle.std.specs.Prelude.{◌≡◌, ◌≤◌, ◌||◌, ◌∷◌, ◌++◌, [], false, IfOk, IfErr, OnOk, Ok, length};
+ghost use Rattle.std.specs.Prelude.{map};
 ghost use Rattle.std.specs.List.{range_with_len};
 ghost use Rattle.std.specs.Str.{bytes_eq};
 ghost use Rattle.asm_text.specs.Pieces.{first_blank};
 ghost use Rattle.asm_text.specs.Source.{lines_of};
-ghost use Rattle.objasm.specs.Conditions.{all_closed};
+ghost use Rattle.objasm.specs.Conditions.{all_closed, open_in};
 ghost use Rattle.objasm.specs.Names.{Meanings, Told, meanings_of};
 ghost use Rattle.objasm.specs.Parts.{part_of, parts};
-ghost use Rattle.objasm.specs.Source.{FaultedAt, body, body_len, ends, fault_at, flow_in, is_end, line_settled};
-ghost use Rattle.objasm.specs.Source.{line_shown, meanings_in, plain_body, plain_lines, plain_of, set_if};
+ghost use Rattle.objasm.specs.Source.{FaultedAt, body, body_len, ends, fault_at, flow_in, is_end};
+ghost use Rattle.objasm.specs.Source.{line_settled, line_shown, meanings_in, plain_body, plain_lines, plain_of, set_if};
 ghost use Rattle.objasm.specs.Source.{settings, shown_behind, shown_line, stripped, taken_line, translated};
 ghost use Rattle.objasm.specs.Source.{trimmed};
 ghost use Rattle.objasm.specs.declared.source.DialectFault.TheVariants.{Memory};
 
-use crate::conditions::{Condition, innermost, is_hidden, is_taken, step_conditions};
+use crate::conditions::{
+    Conditions, innermost, is_hidden, is_taken, no_conditions, step_conditions,
+};
 use crate::faults::LineFault;
 use crate::maps::{settle, settle_again};
 use crate::names::Names;
@@ -109,8 +112,8 @@ fn is_end(line: &[u8]) -> bool
 }
 
 // Whether the source ends at a line.
-fn ends(conditions: &[Condition], line: &[u8]) -> bool
-    ensures { result ≡ ends (reverse conditions.now) line.now }
+fn ends(conditions: &Conditions, line: &[u8]) -> bool
+    ensures { result ≡ ends (open_in conditions.now) line.now }
 {
     is_taken(conditions) && is_end(line)
 }
@@ -141,28 +144,29 @@ fn set_if(
 fn settle_line(
     alloc: Global,
     names: &mut Names,
-    conditions: &mut Vec<Condition>,
+    conditions: &mut Conditions,
     pass: Pass,
     place: Place<'_>,
 ) -> Result<(), LineFault>
     ensures ok { OnOk result
-        (line_settled pass (flow_in (meanings_of names.old) (reverse conditions.old.items)) place.entry.number
-        place.entry.line.now ≡ Ok (flow_in (meanings_of names.new) (reverse conditions.new.items))) }
+        (line_settled pass (flow_in (meanings_of names.old) (open_in conditions.old)) place.entry.number
+        place.entry.line.now ≡ Ok (flow_in (meanings_of names.new) (open_in conditions.new))) }
     ensures fault { IfErr result (λ fault.
-        Told fault (line_settled pass (flow_in (meanings_of names.old) (reverse conditions.old.items))
+        Told fault (line_settled pass (flow_in (meanings_of names.old) (open_in conditions.old))
         place.entry.number place.entry.line.now)) }
 {
     let parts = tokens(alloc, &place.line[..body_len(place.line)])?;
     let is_taken = is_taken(conditions);
     step_conditions(alloc, names, conditions, place.number, &parts)?;
-    set_if(alloc, names, is_taken, pass, &parts)
+    set_if(alloc, names, is_taken, pass, &parts)?;
+    Ok(())
 }
 
 // Refuses the innermost of conditions that are open at the end.
-fn all_closed(conditions: &[Condition]) -> Result<(), DialectFault>
-    ensures ok { OnOk result ((m : Meanings) → all_closed (reverse conditions.now) m ≡ Ok m) }
+fn all_closed(conditions: &Conditions) -> Result<(), DialectFault>
+    ensures ok { OnOk result ((m : Meanings) → all_closed (open_in conditions.now) m ≡ Ok m) }
     ensures fault { IfErr result
-        (λ fault. (m : Meanings) → FaultedAt fault (all_closed (reverse conditions.now) m)) }
+        (λ fault. (m : Meanings) → FaultedAt fault (all_closed (open_in conditions.now) m)) }
 {
     match innermost(conditions) {
         Some(condition) => Err(DialectFault::Line(LineFault::ConditionOpen, condition.line)),
@@ -183,7 +187,7 @@ fn settle_lines(
     ensures fault { IfErr result (λ fault.
         FaultedAt fault (settings pass (flow_in (meanings_of names.old) []) 1 (lines_of source.now))) }
 {
-    let mut conditions = Vec::new(alloc);
+    let mut conditions = no_conditions(alloc);
     let mut rest = source;
     let mut number = 1;
     while let Some((line, after)) = first_line(rest) {
@@ -274,17 +278,17 @@ fn plain_body(
 fn put_taken(
     alloc: Global,
     names: &Names,
-    conditions: &mut Vec<Condition>,
+    conditions: &mut Conditions,
     place: Place<'_>,
     out: &mut Vec<u8>,
 ) -> Result<(), LineFault>
     ensures ok { OnOk result
         (shown_behind out.old.items
-        (taken_line (flow_in (meanings_of names.now) (reverse conditions.old.items)) place.entry.number
+        (taken_line (flow_in (meanings_of names.now) (open_in conditions.old)) place.entry.number
         (parts (body place.entry.line.now)) place.entry.line.now)
-        ≡ Ok (reverse conditions.new.items, out.new.items)) }
+        ≡ Ok (open_in conditions.new, out.new.items)) }
     ensures fault { IfErr result (λ fault. Told fault
-        (taken_line (flow_in (meanings_of names.now) (reverse conditions.old.items)) place.entry.number
+        (taken_line (flow_in (meanings_of names.now) (open_in conditions.old)) place.entry.number
         (parts (body place.entry.line.now)) place.entry.line.now)) }
 {
     let parts = tokens(alloc, &place.line[..body_len(place.line)])?;
@@ -299,17 +303,17 @@ fn put_taken(
 fn put_line(
     alloc: Global,
     names: &Names,
-    conditions: &mut Vec<Condition>,
+    conditions: &mut Conditions,
     place: Place<'_>,
     out: &mut Vec<u8>,
 ) -> Result<(), LineFault>
     ensures ok { OnOk result
         (shown_behind out.old.items
-        (line_shown place.entry.is_below (flow_in (meanings_of names.now) (reverse conditions.old.items))
+        (line_shown place.entry.is_below (flow_in (meanings_of names.now) (open_in conditions.old))
         place.entry.number place.entry.line.now)
-        ≡ Ok (reverse conditions.new.items, out.new.items)) }
+        ≡ Ok (open_in conditions.new, out.new.items)) }
     ensures fault { IfErr result (λ fault. Told fault
-        (line_shown place.entry.is_below (flow_in (meanings_of names.now) (reverse conditions.old.items))
+        (line_shown place.entry.is_below (flow_in (meanings_of names.now) (open_in conditions.old))
         place.entry.number place.entry.line.now)) }
 {
     if place.is_below {
@@ -322,19 +326,19 @@ fn put_line(
 fn put_next(
     alloc: Global,
     names: &Names,
-    conditions: &mut Vec<Condition>,
+    conditions: &mut Conditions,
     place: Place<'_>,
     plain: &mut PlainSource,
 ) -> Result<(), LineFault>
     ensures ok { OnOk result
         (shown_behind plain.old.text.items
-        (line_shown place.entry.is_below (flow_in (meanings_of names.now) (reverse conditions.old.items))
+        (line_shown place.entry.is_below (flow_in (meanings_of names.now) (open_in conditions.old))
         place.entry.number place.entry.line.now)
-        ≡ Ok (reverse conditions.new.items, plain.new.text.items)) }
+        ≡ Ok (open_in conditions.new, plain.new.text.items)) }
     ensures origins { OnOk result
         (plain.new.origins.items ≡ plain.old.origins.items ++ place.entry.number ∷ []) }
     ensures fault { IfErr result (λ fault. Told fault
-        (line_shown place.entry.is_below (flow_in (meanings_of names.now) (reverse conditions.old.items))
+        (line_shown place.entry.is_below (flow_in (meanings_of names.now) (open_in conditions.old))
         place.entry.number place.entry.line.now)) }
 {
     put_line(alloc, names, conditions, place, &mut plain.text)?;
@@ -343,8 +347,8 @@ fn put_next(
 }
 
 // Whether a line is the end of the source, or below it.
-fn is_below(ended: bool, conditions: &[Condition], line: &[u8]) -> bool
-    ensures { result ≡ (ended || ends (reverse conditions.now) line.now) }
+fn is_below(ended: bool, conditions: &Conditions, line: &[u8]) -> bool
+    ensures { result ≡ (ended || ends (open_in conditions.now) line.now) }
 {
     ended || ends(conditions, line)
 }
@@ -359,7 +363,7 @@ fn plain_with(alloc: Global, names: &Names, source: &[u8]) -> Result<PlainSource
         text: Vec::with_capacity(alloc, source.len())?,
         origins: Vec::new(alloc),
     };
-    let mut conditions = Vec::new(alloc);
+    let mut conditions = no_conditions(alloc);
     let mut rest = source;
     let mut number = 1;
     let mut ended = false;
