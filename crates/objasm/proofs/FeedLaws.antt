@@ -10,13 +10,14 @@ use Rattle.asm_text.specs.Numbers.{number_by, read_number}
 use Rattle.asm_text.specs.Pieces.{is_name}
 use Rattle.asm_text.specs.Source.{lines_of, starts_feed}
 use Rattle.asm_text.proofs.WordLaws.{same_Ok}
+use Rattle.objasm.specs.Conditions.{Conditions, conditions_after, is_hidden}
 use Rattle.objasm.specs.Exchanges.{exchange_of, flipped, other_head}
 use Rattle.objasm.specs.Maps.{MapLine, map_line_of}
 use Rattle.objasm.specs.Names.{Meanings, and_then, is_set, mapped}
 use Rattle.objasm.specs.Parts.{Part, Run, Byte, after_blanks, blank_len, field_len, first_field, front_blanks, is_over, is_stop, parts, run_before}
 use Rattle.objasm.specs.PlainLines.{Text, address_in, assert_text, asserted, behind, body_text, exchanged_text, field_text, hex_literal, instruction_text, is_label_field, is_sum, joined, kind_with, literal_at, literal_of, lone, nop_text, number_text, offset_text, operands_text, operation_text, part_text, parts_text, place_text, placed_text, plain_text, register_text, run_by, spaced_operands, statement_text, stop_text, stops_text, sum_line, sum_text, unmapped_text, unset_text, value_text, word_line, word_with, written, written_so}
 use Rattle.objasm.specs.Settings.{Setting, setting_of, truth_of, value_of}
-use Rattle.objasm.specs.Source.{Plain, at_line, body, body_len, is_end, line_text, meanings_in, no_lines, plain_body, plain_lines, plain_of, shown_line, then_lines, translated, trimmed, with_line}
+use Rattle.objasm.specs.Source.{Flow, Plain, Shown, at_line, body, body_len, ends, flow_in, line_shown, meanings_in, no_lines, plain_body, plain_lines, plain_of, shown_line, shown_text, taken_line, then_lines, translated, trimmed, with_line}
 use Rattle.objasm.specs.Words.{cond_place, is_assert, is_directive, is_nop, is_silent, known_cond, sum_word, word_text}
 use Rattle.objasm.specs.declared.exchanges.Flip.{Flip}
 use Rattle.objasm.specs.declared.faults.LineFault.{LineFault}
@@ -426,18 +427,32 @@ one_line (b ∷ t) rest h =
     by_return false is = onto_counts b (length (lines_of rest)) (lines_of ((t ++ 10 ∷ []) ++ rest)) is
 
 -- a line's text is one line
-IsOne : Text → Type 0
-IsOne (Ok t) = (rest : List ℕ) → length (lines_of (t ++ rest)) ≡ suc (length (lines_of rest))
+IsOne : Shown → Type 0
+IsOne (Ok s) = (rest : List ℕ) → length (lines_of (s.1 ++ rest)) ≡ suc (length (lines_of rest))
 IsOne (Err fault) = Unit {0}
 
-line_is_one : (ended : Bool) (m : Meanings) (l : List ℕ) → Inside l → IsOne (line_text ended m l)
+text_is_one : (conditions : Conditions) (l : List ℕ) (r : Text) → Inside l → IsInside r → IsOne (mapped (λ t. (conditions, t)) (shown_text l r))
 unfolding IsOne
-line_is_one ended m l h =
-    by_body (plain_body ended m l) (text_of ended (Ok []) (body_text m (parts (body l))) refl (body_inside m (parts (body l)) (parts_inside (body l) (all_take is_in_line (body_len l) l h))))
+text_is_one conditions l (Ok plain) h k = λ rest. one_line (shown_line plain l) rest (shown_inside plain l k h)
+text_is_one conditions l (Err fault) h k = tt
+
+taken_is_one : (f : Flow) (n : ℕ) (l : List ℕ) → Inside l → IsOne (taken_line f n (parts (body l)) l)
+unfolding IsOne
+taken_is_one f n l h = by_step (conditions_after f.names n f.conditions ps)
   where
-    by_body : (r : Text) → IsInside r → IsOne (mapped (λ plain. shown_line plain l ++ 10 ∷ []) r)
-    by_body (Ok plain) k = λ rest. one_line (shown_line plain l) rest (shown_inside plain l k h)
-    by_body (Err fault) k = tt
+    ps : List Part
+    ps = parts (body l)
+
+    hidden_inside : IsInside (plain_body (is_hidden f.conditions ps) f.names ps)
+    hidden_inside = text_of (is_hidden f.conditions ps) (Ok []) (body_text f.names ps) refl (body_inside f.names ps (parts_inside (body l) (all_take is_in_line (body_len l) l h)))
+
+    by_step : (r : Result Conditions LineFault) → IsOne (and_then (λ next. mapped (λ t. (next, t)) (shown_text l (plain_body (is_hidden f.conditions ps) f.names ps))) r)
+    by_step (Ok next) = text_is_one next l (plain_body (is_hidden f.conditions ps) f.names ps) h hidden_inside
+    by_step (Err fault) = tt
+
+line_is_one : (ended : Bool) (f : Flow) (n : ℕ) (l : List ℕ) → Inside l → IsOne (line_shown ended f n l)
+line_is_one true f n l h = text_is_one f.conditions l (Ok []) h refl
+line_is_one false f n l h = taken_is_one f n l h
 
 counted_rest : (n k : ℕ) (t : List ℕ) (r : Result Plain (LineFault × ℕ)) (p : Plain) → ((rest : List ℕ) → length (lines_of (t ++ rest)) ≡ suc (length (lines_of rest)))
     → ((q : Plain) → r ≡ Ok q → length (lines_of q.text) ≡ k) → mapped (with_line n t) r ≡ Ok p → length (lines_of p.text) ≡ suc k
@@ -445,22 +460,22 @@ counted_rest n k t (Ok q) p one later is =
     ap (λ (x : Plain). length (lines_of x.text)) (same_Ok p (with_line n t q) (sym is)) ∙ one q.text ∙ ap suc (later q refl)
 counted_rest n k t (Err fault) p one later is = absurd cc
 
-counted_next : (n k : ℕ) (line : Text) (r : Result Plain (LineFault × ℕ)) (p : Plain) → IsOne line
-    → ((q : Plain) → r ≡ Ok q → length (lines_of q.text) ≡ k) → at_line n line (λ t. mapped (with_line n t) r) ≡ Ok p → length (lines_of p.text) ≡ suc k
+counted_next : (n k : ℕ) (line : Shown) (g : Conditions → Result Plain (LineFault × ℕ)) (p : Plain) → IsOne line
+    → ((cs : Conditions) (q : Plain) → g cs ≡ Ok q → length (lines_of q.text) ≡ k) → at_line n line (λ t. mapped (with_line n t.1) (g t.0)) ≡ Ok p → length (lines_of p.text) ≡ suc k
 unfolding IsOne
-counted_next n k (Ok t) r p one later is = counted_rest n k t r p one later is
-counted_next n k (Err fault) r p one later is = absurd cc
+counted_next n k (Ok s) g p one later is = counted_rest n k s.1 (g s.0) p one (later s.0) is
+counted_next n k (Err fault) g p one later is = absurd cc
 
-counted : (ended : Bool) (m : Meanings) (n : ℕ) (ls : List (List ℕ)) (p : Plain) → all_lines ls ≡ true → plain_lines ended m n ls ≡ Ok p → length (lines_of p.text) ≡ length ls
+counted : (ended : Bool) (f : Flow) (n : ℕ) (ls : List (List ℕ)) (p : Plain) → all_lines ls ≡ true → plain_lines ended f n ls ≡ Ok p → length (lines_of p.text) ≡ length ls
 unfolding plain_lines all_lines lines_of
-counted ended m n [] p h is = ap (λ (q : Plain). length (lines_of q.text)) (same_Ok p no_lines (sym is))
-counted ended m n (l ∷ ls) p h is =
+counted ended f n [] p h is = ap (λ (q : Plain). length (lines_of q.text)) (same_Ok p no_lines (sym is))
+counted ended f n (l ∷ ls) p h is =
     let a = and_parts (list_all is_in_line l) (all_lines ls) h in
-    let below = ended || is_end l in
-    counted_next n (length ls) (line_text below m l) (plain_lines below m (n + 1) ls) p (line_is_one below m l a.0) (λ q. counted below m (n + 1) ls q a.1) is
+    let below = ended || ends f.conditions l in
+    counted_next n (length ls) (line_shown below f n l) (λ cs. plain_lines below (flow_in f.names cs) (n + 1) ls) p (line_is_one below f n l a.0) (λ cs q. counted below (flow_in f.names cs) (n + 1) ls q a.1) is
 
 all_counted : (r : Result Meanings (LineFault × ℕ)) (ls : List (List ℕ)) (p : Plain) → all_lines ls ≡ true → then_lines r ls ≡ Ok p → length (lines_of p.text) ≡ length ls
-all_counted (Ok m) ls p h is = counted false m 1 ls p h is
+all_counted (Ok m) ls p h is = counted false (flow_in m []) 1 ls p h is
 all_counted (Err fault) ls p h is = absurd cc
 
 pub ok_counted : (source : List ℕ) (r : Result PlainSource DialectFault) → IfOk r (λ p. translated source ≡ Ok (plain_of p)) → IfOk r (λ p. length (lines_of p.text.items) ≡ length (lines_of source))

@@ -4,6 +4,7 @@ mod SymbolLaws
 mod TextLaws
 mod PlainLaws
 mod FeedLaws
+mod ConditionLaws
 mod SourceLaws
 mod ExpressionLaws
 mod ReadingLaws

@@ -5,7 +5,8 @@ use Rattle.objasm.specs.declared.faults.LineFault.TheVariants.{Memory, UnknownDi
 use Rattle.objasm.specs.declared.faults.LineFault.TheVariants.{NameMissing, BadExpression, BadNumber}
 use Rattle.objasm.specs.declared.faults.LineFault.TheVariants.{NoValue, BadRegister, BadOperand, NotANumber}
 use Rattle.objasm.specs.declared.faults.LineFault.TheVariants.{NotLogical}
-use Rattle.objasm.specs.declared.faults.LineFault.TheVariants.{AssertionFailed}
+use Rattle.objasm.specs.declared.faults.LineFault.TheVariants.{AssertionFailed, ConditionMissing, ElseTwice}
+use Rattle.objasm.specs.declared.faults.LineFault.TheVariants.{ConditionOpen, ConditionTooDeep}
 
 abbrev pub name : LineFault → List ℕ
 name Memory = codes "Memory"
@@ -21,3 +22,7 @@ name BadOperand = codes "BadOperand"
 name NotANumber = codes "NotANumber"
 name NotLogical = codes "NotLogical"
 name AssertionFailed = codes "AssertionFailed"
+name ConditionMissing = codes "ConditionMissing"
+name ElseTwice = codes "ElseTwice"
+name ConditionOpen = codes "ConditionOpen"
+name ConditionTooDeep = codes "ConditionTooDeep"

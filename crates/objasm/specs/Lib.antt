@@ -8,6 +8,7 @@ pub mod Numerals
 pub mod Symbols
 pub mod Settings
 pub mod Maps
+pub mod Conditions
 pub mod Words
 pub mod Exchanges
 pub mod PlainLines

@@ -7,9 +7,10 @@ use Rattle.std.specs.List.{prefix_len, suffix_len}
 use Rattle.std.specs.Str.{bytes_eq}
 use Rattle.asm_text.specs.Pieces.{first_blank}
 use Rattle.asm_text.specs.Source.{lines_of}
+use Rattle.objasm.specs.Conditions.{Conditions, all_closed, conditions_after, is_hidden, is_taken}
 use Rattle.objasm.specs.Maps.{settled, settled_again}
 use Rattle.objasm.specs.Names.{Meanings, and_then, mapped, no_meanings}
-use Rattle.objasm.specs.Parts.{parts}
+use Rattle.objasm.specs.Parts.{Part, parts}
 use Rattle.objasm.specs.PlainLines.{Text, body_text}
 use Rattle.objasm.specs.declared.faults.LineFault.{LineFault}
 use Rattle.objasm.specs.declared.faults.LineFault.TheVariants as line
@@ -28,10 +29,31 @@ body_len text = prefix_len (λ b. not (b == 59)) text
 abbrev pub body : List ℕ → List ℕ
 body text = take (body_len text) text
 
+-- what the names mean at a line, and which conditions are open there
+pub record Flow : Type 0 where
+  pub names : Meanings
+  pub conditions : Conditions
+
+abbrev pub flow_in : Meanings → Conditions → Flow
+flow_in m cs = record { names = m; conditions = cs }
+
 -- by the time that it is read for the names
-abbrev pub line_settled : Pass → Meanings → List ℕ → Result Meanings LineFault
-line_settled First m text = settled m (parts (body text))
-line_settled Second m text = settled_again m (parts (body text))
+abbrev pub set_in : Pass → Meanings → List Part → Result Meanings LineFault
+set_in First m ps = settled m ps
+set_in Second m ps = settled_again m ps
+
+-- lines that are left out set nothing
+abbrev pub set_if : Bool → Pass → Meanings → List Part → Result Meanings LineFault
+set_if taken pass m ps = if taken then set_in pass m ps else Ok m
+
+abbrev pub parts_settled : Pass → Flow → ℕ → List Part → Result Flow LineFault
+parts_settled pass f n ps =
+    and_then (λ next. mapped (λ m. flow_in m next) (set_if (is_taken f.conditions) pass f.names ps))
+    (conditions_after f.names n f.conditions ps)
+
+-- the flow after the line of this number
+abbrev pub line_settled : Pass → Flow → ℕ → List ℕ → Result Flow LineFault
+line_settled pass f n text = parts_settled pass f n (parts (body text))
 
 -- without the white space at its end
 abbrev pub trimmed : List ℕ → List ℕ
@@ -45,19 +67,43 @@ stripped text = trimmed (drop (prefix_len is_ascii_whitespace text) text)
 abbrev pub is_end : List ℕ → Bool
 is_end text = first_blank text && bytes_eq (stripped (body text)) (codes "END")
 
+-- such a line among those that are assembled
+abbrev pub ends : Conditions → List ℕ → Bool
+ends cs text = is_taken cs && is_end text
+
 -- the line itself, where but for blanks that is what stands for it, else that, and the line as a comment
 -- behind it
 abbrev pub shown_line : (plain text : List ℕ) → List ℕ
 shown_line plain text =
     if bytes_eq (trimmed plain) (trimmed (body text)) then text else trimmed plain ++ (codes " ; " ++ text)
 
--- what stands for a line, that at the end or below it aside, for which nothing does
-abbrev pub plain_body : Bool → Meanings → List ℕ → Text
-plain_body ended m text = if ended then Ok [] else body_text m (parts (body text))
+-- what stands for a line, but for those at the end or below it, which are left out or are of conditions
+abbrev pub plain_body : Bool → Meanings → List Part → Text
+plain_body hidden m ps = if hidden then Ok [] else body_text m ps
 
 -- what is shown of a line, and an LF
-abbrev pub line_text : Bool → Meanings → List ℕ → Text
-line_text ended m text = mapped (λ plain. shown_line plain text ++ 10 ∷ []) (plain_body ended m text)
+abbrev pub shown_text : List ℕ → Text → Text
+shown_text text r = mapped (λ plain. shown_line plain text ++ 10 ∷ []) r
+
+-- what is open after a line, and what stands for it
+abbrev pub Shown : Type 0
+Shown = Result (Conditions × List ℕ) LineFault
+
+-- the text behind what is there
+abbrev pub shown_behind : List ℕ → Shown → Shown
+shown_behind done r = mapped (λ s. (s.0, done ++ s.1)) r
+
+abbrev pub taken_line : Flow → ℕ → List Part → List ℕ → Shown
+taken_line f n ps text =
+    and_then
+    (λ next. mapped (λ t. (next, t)) (shown_text text (plain_body (is_hidden f.conditions ps) f.names ps)))
+    (conditions_after f.names n f.conditions ps)
+
+-- conditions below the end are none
+abbrev pub line_shown : Bool → Flow → ℕ → List ℕ → Shown
+line_shown ended f n text =
+    if ended then mapped (λ t. (f.conditions, t)) (shown_text text (Ok []))
+    else taken_line f n (parts (body text)) text
 
 -- ## All lines
 
@@ -67,16 +113,18 @@ abbrev pub at_line : {A B : Type 0} → ℕ → Result A LineFault → (A → Re
 at_line n (Ok a) f = f a
 at_line n (Err fault) f = Err (fault, n)
 
--- the meanings after lines, of which the first has this number
-unfoldable pub settings : Pass → Meanings → ℕ → List (List ℕ) → Result Meanings (LineFault × ℕ)
-settings pass m n [] = Ok m
-settings pass m n (l ∷ ls) =
-    if is_end l then Ok m else at_line n (line_settled pass m l) (λ more. settings pass more (n + 1) ls)
+-- the meanings after lines, of which the first has this number; at the end no condition is open
+unfoldable pub settings : Pass → Flow → ℕ → List (List ℕ) → Result Meanings (LineFault × ℕ)
+settings pass f n [] = all_closed f.conditions f.names
+settings pass f n (l ∷ ls) =
+    if ends f.conditions l then all_closed f.conditions f.names
+    else at_line n (line_settled pass f n l) (λ more. settings pass more (n + 1) ls)
 
 -- what the names of all lines mean: a name may be used above the line that sets it, also by a line that sets
 -- another, which is then read again
 abbrev pub meanings_in : List (List ℕ) → Result Meanings (LineFault × ℕ)
-meanings_in ls = and_then (λ m. settings Second m 1 ls) (settings First no_meanings 1 ls)
+meanings_in ls =
+    and_then (λ m. settings Second (flow_in m []) 1 ls) (settings First (flow_in no_meanings []) 1 ls)
 
 -- lines of our grammar, each ended by LF, and the number of the line that each comes from
 pub record Plain : Type 0 where
@@ -93,14 +141,15 @@ abbrev pub with_line : ℕ → List ℕ → Plain → Plain
 with_line n text p = record { text = text ++ p.text; origins = n ∷ p.origins }
 
 -- what stands for lines, of which the first has this number, at the end of the source or before it
-unfoldable pub plain_lines : Bool → Meanings → ℕ → List (List ℕ) → Result Plain (LineFault × ℕ)
-plain_lines ended m n [] = Ok no_lines
-plain_lines ended m n (l ∷ ls) =
-    let below = ended || is_end l in
-    at_line n (line_text below m l) (λ t. mapped (with_line n t) (plain_lines below m (n + 1) ls))
+unfoldable pub plain_lines : Bool → Flow → ℕ → List (List ℕ) → Result Plain (LineFault × ℕ)
+plain_lines ended f n [] = Ok no_lines
+plain_lines ended f n (l ∷ ls) =
+    let below = ended || ends f.conditions l in
+    at_line n (line_shown below f n l)
+    (λ t. mapped (with_line n t.1) (plain_lines below (flow_in f.names t.0) (n + 1) ls))
 
 abbrev pub then_lines : Result Meanings (LineFault × ℕ) → List (List ℕ) → Result Plain (LineFault × ℕ)
-then_lines (Ok m) ls = plain_lines false m 1 ls
+then_lines (Ok m) ls = plain_lines false (flow_in m []) 1 ls
 then_lines (Err fault) ls = Err fault
 
 -- what all lines set is known in each that sets nothing

@@ -21,7 +21,7 @@ pub enum LineFault {
     #[error("NameTwice")]
     NameTwice,
     /// A name in an expression that no line sets, or in a line that sets a name none whose value is known; in
-    /// a map none whose value is known above.
+    /// a map and a condition none whose value is known above.
     #[error("NameMissing")]
     NameMissing,
     /// What stands for a number is no expression.
@@ -37,7 +37,7 @@ pub enum LineFault {
     /// A register of a number above 15, or no register behind the comma of a map.
     #[error("BadRegister")]
     BadRegister,
-    /// Operands behind a word that takes none.
+    /// Something behind a word or a sign that takes nothing.
     #[error("BadOperand")]
     BadOperand,
     /// The value of a comparison where a number stands, or a name with a base register.
@@ -49,6 +49,18 @@ pub enum LineFault {
     /// What is asserted does not hold.
     #[error("AssertionFailed")]
     AssertionFailed,
+    /// `|` or `]` where no condition is open.
+    #[error("ConditionMissing")]
+    ConditionMissing,
+    /// A second `|` of one condition.
+    #[error("ElseTwice")]
+    ElseTwice,
+    /// A condition that is open at the end, at the line that opened it.
+    #[error("ConditionOpen")]
+    ConditionOpen,
+    /// A condition inside 64 others.
+    #[error("ConditionTooDeep")]
+    ConditionTooDeep,
 }
 
 impl From<AllocError> for LineFault {
@@ -86,6 +98,10 @@ impl LineFault {
             LineFault::NotANumber => b"NotANumber",
             LineFault::NotLogical => b"NotLogical",
             LineFault::AssertionFailed => b"AssertionFailed",
+            LineFault::ConditionMissing => b"ConditionMissing",
+            LineFault::ElseTwice => b"ElseTwice",
+            LineFault::ConditionOpen => b"ConditionOpen",
+            LineFault::ConditionTooDeep => b"ConditionTooDeep",
         }
     }
 }

@@ -1,20 +1,26 @@
 ghost use Rattle.std.specs.Prelude.{◌≡◌, ◌≤◌, ◌||◌, ◌∷◌, ◌++◌, [], false, IfOk, IfErr, OnOk, Ok, length};
+ghost use Rattle.std.specs.Prelude.{map};
 ghost use Rattle.std.specs.List.{range_with_len};
 ghost use Rattle.std.specs.Str.{bytes_eq};
 ghost use Rattle.asm_text.specs.Pieces.{first_blank};
 ghost use Rattle.asm_text.specs.Source.{lines_of};
-ghost use Rattle.objasm.specs.Names.{Told, meanings_of};
-ghost use Rattle.objasm.specs.PlainLines.{behind};
-ghost use Rattle.objasm.specs.Source.{FaultedAt, body_len, fault_at, is_end, line_settled, line_text};
-ghost use Rattle.objasm.specs.Source.{meanings_in, plain_lines, plain_of, settings, shown_line};
-ghost use Rattle.objasm.specs.Source.{stripped, translated, trimmed};
+ghost use Rattle.objasm.specs.Conditions.{all_closed, open_in};
+ghost use Rattle.objasm.specs.Names.{Meanings, Told, meanings_of};
+ghost use Rattle.objasm.specs.Parts.{part_of, parts};
+ghost use Rattle.objasm.specs.Source.{FaultedAt, body, body_len, ends, fault_at, flow_in, is_end};
+ghost use Rattle.objasm.specs.Source.{line_settled, line_shown, meanings_in, plain_body, plain_lines, plain_of, set_if};
+ghost use Rattle.objasm.specs.Source.{settings, shown_behind, shown_line, stripped, taken_line, translated};
+ghost use Rattle.objasm.specs.Source.{trimmed};
 ghost use Rattle.objasm.specs.declared.source.DialectFault.TheVariants.{Memory};
 
+use crate::conditions::{
+    Conditions, innermost, is_hidden, is_taken, no_conditions, step_conditions,
+};
 use crate::faults::LineFault;
 use crate::maps::{settle, settle_again};
 use crate::names::Names;
 use crate::plain_lines::put_body;
-use crate::token::tokens;
+use crate::token::{Token, tokens};
 use asm_text::{first_line, is_blank};
 use std::alloc::{AllocError, Global};
 use thiserror::Error;
@@ -105,23 +111,66 @@ fn is_end(line: &[u8]) -> bool
     first_blank(line) & (stripped(&line[..body_len(line)]) == b"END".as_slice())
 }
 
-// Whether a line is the end of the source, or below it.
-fn is_below(ended: bool, line: &[u8]) -> bool
-    ensures { result ≡ (ended || is_end line.now) }
+// Whether the source ends at a line.
+fn ends(conditions: &Conditions, line: &[u8]) -> bool
+    ensures { result ≡ ends (open_in conditions.now) line.now }
 {
-    ended || is_end(line)
+    is_taken(conditions) && is_end(line)
 }
 
-fn settle_line(alloc: Global, names: &mut Names, pass: Pass, line: &[u8]) -> Result<(), LineFault>
+// Sets what a line sets, if it is assembled.
+fn set_if(
+    alloc: Global,
+    names: &mut Names,
+    is_taken: bool,
+    pass: Pass,
+    parts: &[Token<'_>],
+) -> Result<(), LineFault>
     ensures ok { OnOk result
-        (line_settled pass (meanings_of names.old) line.now ≡ Ok (meanings_of names.new)) }
+        (set_if is_taken pass (meanings_of names.old) (map part_of parts.now) ≡ Ok (meanings_of names.new)) }
     ensures fault { IfErr result
-        (λ fault. Told fault (line_settled pass (meanings_of names.old) line.now)) }
+        (λ fault. Told fault (set_if is_taken pass (meanings_of names.old) (map part_of parts.now))) }
 {
-    let parts = tokens(alloc, &line[..body_len(line)])?;
+    if !is_taken {
+        return Ok(());
+    }
     match pass {
-        Pass::First => settle(alloc, names, &parts),
-        Pass::Second => settle_again(alloc, names, &parts),
+        Pass::First => settle(alloc, names, parts),
+        Pass::Second => settle_again(alloc, names, parts),
+    }
+}
+
+// Notes what a line says of conditions, and sets what it sets.
+fn settle_line(
+    alloc: Global,
+    names: &mut Names,
+    conditions: &mut Conditions,
+    pass: Pass,
+    place: Place<'_>,
+) -> Result<(), LineFault>
+    ensures ok { OnOk result
+        (line_settled pass (flow_in (meanings_of names.old) (open_in conditions.old)) place.entry.number
+        place.entry.line.now ≡ Ok (flow_in (meanings_of names.new) (open_in conditions.new))) }
+    ensures fault { IfErr result (λ fault.
+        Told fault (line_settled pass (flow_in (meanings_of names.old) (open_in conditions.old))
+        place.entry.number place.entry.line.now)) }
+{
+    let parts = tokens(alloc, &place.line[..body_len(place.line)])?;
+    let is_taken = is_taken(conditions);
+    step_conditions(alloc, names, conditions, place.number, &parts)?;
+    set_if(alloc, names, is_taken, pass, &parts)?;
+    Ok(())
+}
+
+// Refuses the innermost of conditions that are open at the end.
+fn all_closed(conditions: &Conditions) -> Result<(), DialectFault>
+    ensures ok { OnOk result ((m : Meanings) → all_closed (open_in conditions.now) m ≡ Ok m) }
+    ensures fault { IfErr result
+        (λ fault. (m : Meanings) → FaultedAt fault (all_closed (open_in conditions.now) m)) }
+{
+    match innermost(conditions) {
+        Some(condition) => Err(DialectFault::Line(LineFault::ConditionOpen, condition.line)),
+        None => Ok(()),
     }
 }
 
@@ -133,23 +182,30 @@ fn settle_lines(
     source: &[u8],
 ) -> Result<(), DialectFault>
     ensures ok { OnOk result
-        (settings pass (meanings_of names.old) 1 (lines_of source.now) ≡ Ok (meanings_of names.new)) }
+        (settings pass (flow_in (meanings_of names.old) []) 1 (lines_of source.now)
+        ≡ Ok (meanings_of names.new)) }
     ensures fault { IfErr result (λ fault.
-        FaultedAt fault (settings pass (meanings_of names.old) 1 (lines_of source.now))) }
+        FaultedAt fault (settings pass (flow_in (meanings_of names.old) []) 1 (lines_of source.now))) }
 {
+    let mut conditions = no_conditions(alloc);
     let mut rest = source;
     let mut number = 1;
     while let Some((line, after)) = first_line(rest) {
-        if is_end(line) {
-            return Ok(());
+        if ends(&conditions, line) {
+            return all_closed(&conditions);
         }
-        if let Err(fault) = settle_line(alloc, names, pass, line) {
+        let place = Place {
+            line,
+            number,
+            is_below: false,
+        };
+        if let Err(fault) = settle_line(alloc, names, &mut conditions, pass, place) {
             return Err(fault_at(fault, number));
         }
         rest = after;
         number += 1;
     }
-    Ok(())
+    all_closed(&conditions)
 }
 
 fn names_of(alloc: Global, source: &[u8]) -> Result<Names, DialectFault>
@@ -198,71 +254,127 @@ fn put_ended(out: &mut Vec<u8>, plain: &[u8], line: &[u8]) -> Result<(), AllocEr
     Ok(())
 }
 
-// The same of a line, by what stands for it.
-fn put_line(
+// What stands for a line, if it is not hidden.
+fn plain_body(
     alloc: Global,
     names: &Names,
-    ended: bool,
-    line: &[u8],
+    is_hidden: bool,
+    parts: &[Token<'_>],
+) -> Result<Vec<u8>, LineFault>
+    ensures ok { IfOk result
+        (λ plain. plain_body is_hidden (meanings_of names.now) (map part_of parts.now) ≡ Ok plain.items) }
+    ensures fault { IfErr result
+        (λ fault. Told fault (plain_body is_hidden (meanings_of names.now) (map part_of parts.now))) }
+{
+    let mut plain = Vec::new(alloc);
+    if is_hidden {
+        return Ok(plain);
+    }
+    put_body(alloc, names, parts, &mut plain)?;
+    Ok(plain)
+}
+
+// Puts what is shown of a line in front of the end, and notes what it says of conditions.
+fn put_taken(
+    alloc: Global,
+    names: &Names,
+    conditions: &mut Conditions,
+    place: Place<'_>,
     out: &mut Vec<u8>,
 ) -> Result<(), LineFault>
     ensures ok { OnOk result
-        (behind out.old.items (line_text ended (meanings_of names.now) line.now) ≡ Ok out.new.items) }
-    ensures fault { IfErr result
-        (λ fault. Told fault (line_text ended (meanings_of names.now) line.now)) }
+        (shown_behind out.old.items
+        (taken_line (flow_in (meanings_of names.now) (open_in conditions.old)) place.entry.number
+        (parts (body place.entry.line.now)) place.entry.line.now)
+        ≡ Ok (open_in conditions.new, out.new.items)) }
+    ensures fault { IfErr result (λ fault. Told fault
+        (taken_line (flow_in (meanings_of names.now) (open_in conditions.old)) place.entry.number
+        (parts (body place.entry.line.now)) place.entry.line.now)) }
 {
-    if ended {
-        put_ended(out, &[], line)?;
+    let parts = tokens(alloc, &place.line[..body_len(place.line)])?;
+    let is_hidden = is_hidden(conditions, &parts);
+    step_conditions(alloc, names, conditions, place.number, &parts)?;
+    let plain = plain_body(alloc, names, is_hidden, &parts)?;
+    put_ended(out, &plain, place.line)?;
+    Ok(())
+}
+
+// Puts what is shown of a line.
+fn put_line(
+    alloc: Global,
+    names: &Names,
+    conditions: &mut Conditions,
+    place: Place<'_>,
+    out: &mut Vec<u8>,
+) -> Result<(), LineFault>
+    ensures ok { OnOk result
+        (shown_behind out.old.items
+        (line_shown place.entry.is_below (flow_in (meanings_of names.now) (open_in conditions.old))
+        place.entry.number place.entry.line.now)
+        ≡ Ok (open_in conditions.new, out.new.items)) }
+    ensures fault { IfErr result (λ fault. Told fault
+        (line_shown place.entry.is_below (flow_in (meanings_of names.now) (open_in conditions.old))
+        place.entry.number place.entry.line.now)) }
+{
+    if place.is_below {
+        put_ended(out, &[], place.line)?;
         return Ok(());
     }
-    let parts = tokens(alloc, &line[..body_len(line)])?;
-    let mut plain = Vec::new(alloc);
-    put_body(alloc, names, &parts, &mut plain)?;
-    put_ended(out, &plain, line)?;
-    Ok(())
+    put_taken(alloc, names, conditions, place, out)
 }
 
 fn put_next(
     alloc: Global,
     names: &Names,
+    conditions: &mut Conditions,
     place: Place<'_>,
     plain: &mut PlainSource,
 ) -> Result<(), LineFault>
     ensures ok { OnOk result
-        (behind plain.old.text.items
-        (line_text place.entry.is_below (meanings_of names.now) place.entry.line.now)
-        ≡ Ok plain.new.text.items) }
+        (shown_behind plain.old.text.items
+        (line_shown place.entry.is_below (flow_in (meanings_of names.now) (open_in conditions.old))
+        place.entry.number place.entry.line.now)
+        ≡ Ok (open_in conditions.new, plain.new.text.items)) }
     ensures origins { OnOk result
         (plain.new.origins.items ≡ plain.old.origins.items ++ place.entry.number ∷ []) }
-    ensures fault { IfErr result (λ fault.
-        Told fault (line_text place.entry.is_below (meanings_of names.now) place.entry.line.now)) }
+    ensures fault { IfErr result (λ fault. Told fault
+        (line_shown place.entry.is_below (flow_in (meanings_of names.now) (open_in conditions.old))
+        place.entry.number place.entry.line.now)) }
 {
-    put_line(alloc, names, place.is_below, place.line, &mut plain.text)?;
+    put_line(alloc, names, conditions, place, &mut plain.text)?;
     plain.origins.push(place.number)?;
     Ok(())
 }
 
+// Whether a line is the end of the source, or below it.
+fn is_below(ended: bool, conditions: &Conditions, line: &[u8]) -> bool
+    ensures { result ≡ (ended || ends (open_in conditions.now) line.now) }
+{
+    ended || ends(conditions, line)
+}
+
 fn plain_with(alloc: Global, names: &Names, source: &[u8]) -> Result<PlainSource, DialectFault>
     ensures ok { IfOk result (λ p.
-        plain_lines false (meanings_of names.now) 1 (lines_of source.now) ≡ Ok (plain_of p)) }
-    ensures fault { IfErr result
-        (λ fault. FaultedAt fault (plain_lines false (meanings_of names.now) 1 (lines_of source.now))) }
+        plain_lines false (flow_in (meanings_of names.now) []) 1 (lines_of source.now) ≡ Ok (plain_of p)) }
+    ensures fault { IfErr result (λ fault.
+        FaultedAt fault (plain_lines false (flow_in (meanings_of names.now) []) 1 (lines_of source.now))) }
 {
     let mut plain = PlainSource {
         text: Vec::with_capacity(alloc, source.len())?,
         origins: Vec::new(alloc),
     };
+    let mut conditions = no_conditions(alloc);
     let mut rest = source;
     let mut number = 1;
     let mut ended = false;
     while let Some((line, after)) = first_line(rest) {
-        ended = is_below(ended, line);
+        ended = is_below(ended, &conditions, line);
         let place = Place {
             line,
             number,
             is_below: ended,
         };
-        if let Err(fault) = put_next(alloc, names, place, &mut plain) {
+        if let Err(fault) = put_next(alloc, names, &mut conditions, place, &mut plain) {
             return Err(fault_at(fault, number));
         }
         rest = after;

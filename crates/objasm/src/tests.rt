@@ -2,7 +2,7 @@ use crate::faults::LineFault;
 use crate::source::{DialectFault, plain_source};
 
 // Texts of the dialect, and what stands for them.
-const TEXTS: [(&[u8], &[u8]); 20] = [
+const TEXTS: [(&[u8], &[u8]); 23] = [
     (
         b"a EQU 1\n b\n MOV R0,#a+2*3\n",
         b" ; a EQU 1\n b\n MOV R0,#7 ;  MOV R0,#a+2*3\n",
@@ -79,11 +79,23 @@ const TEXTS: [(&[u8], &[u8]); 20] = [
         b"w RN 12\n ^ 0-4,w\nx # 4\ny # 8\n LDR R0,x\n STRB R1, y ; y\n ADRNE R2,y\n LDR R3,l\nl ADR R4,l\n MAP 8,r1\nz # 0\n adr r0,z\n",
         b" ; w RN 12\n ;  ^ 0-4,w\n ; x # 4\n ; y # 8\n LDR R0,[R12,#-4] ;  LDR R0,x\n STRB R1, [R12,#0] ;  STRB R1, y ; y\n ADDNE R2,R12,#0 ;  ADRNE R2,y\n LDR R3,l\nl ADR R4,l\n ;  MAP 8,r1\n ; z # 0\n add r0,R1,#8 ;  adr r0,z\n",
     ),
+    (
+        b"n EQU 2\n [ n=2\na EQU 5\n |\na EQU 6\n ]\n MOV R0,#a\n",
+        b" ; n EQU 2\n ;  [ n=2\n ; a EQU 5\n ;  |\n ; a EQU 6\n ;  ]\n MOV R0,#5 ;  MOV R0,#a\n",
+    ),
+    (
+        b" IF 1>2\n [ what\n GARBAGE,\n |\n ]\n END\n ELSE ;\n NOP\n ENDIF ; done\n",
+        b" ;  IF 1>2\n ;  [ what\n ;  GARBAGE,\n ;  |\n ;  ]\n ;  END\n ;  ELSE ;\n MOV R0,R0 ;  NOP\n ;  ENDIF ; done\n",
+    ),
+    (
+        b"[ 1=1\n [ 1=1\n |\n MOV R0,#1\n ]\n | \n [\n |\n x,\n ]\n]\n",
+        b" ; [ 1=1\n ;  [ 1=1\n ;  |\n ;  MOV R0,#1\n ;  ]\n ;  | \n ;  [\n ;  |\n ;  x,\n ;  ]\n ; ]\n",
+    ),
     (b"", b""),
 ];
 
 // Texts that are refused.
-const REFUSED: [(&[u8], LineFault, usize); 34] = [
+const REFUSED: [(&[u8], LineFault, usize); 46] = [
     (b"\n NOP R0\n", LineFault::BadOperand, 2),
     (b" MOV R0,#1\n LTORG\n", LineFault::UnknownDirective, 2),
     (b" = 1,2\n", LineFault::UnknownDirective, 1),
@@ -118,6 +130,22 @@ const REFUSED: [(&[u8], LineFault, usize); 34] = [
     (b"1a # 4\n", LineFault::BadName, 1),
     (b" ^ 0,R1\na # 4\n MOV R0,#a\n", LineFault::NotANumber, 3),
     (b" ^ 0!\n", LineFault::BadExpression, 1),
+    (b"\n ]\n", LineFault::ConditionMissing, 2),
+    (b" ELSE\n ENDIF\n", LineFault::ConditionMissing, 1),
+    (b" [ 1=1\n |\n |\n ]\n", LineFault::ElseTwice, 3),
+    (b"\n [ 1=1\n [ 2=2\n ]\n", LineFault::ConditionOpen, 2),
+    (b" [ 1=1\n |\n [\n", LineFault::ConditionOpen, 3),
+    (b" [ 1=1\n END\n ]\n", LineFault::ConditionOpen, 1),
+    (b" [ n=1\nn EQU 1\n ]\n", LineFault::NameMissing, 1),
+    (
+        b" [ 1=2\nn EQU 1\n ]\n DCD n+1\n",
+        LineFault::NameMissing,
+        4,
+    ),
+    (b" IF 4\n ENDIF\n", LineFault::NotLogical, 1),
+    (b" [ 1=1\n ] x\n", LineFault::BadOperand, 2),
+    (b" [ 1=2\n ELIF 1=1\n ]\n", LineFault::UnknownDirective, 2),
+    (b" [ 1=2\nl [ 1=1\n ]\n ]\n", LineFault::UnknownDirective, 2),
 ];
 
 #[test]

@@ -1,13 +1,14 @@
-use Rattle.std.proofs.Common.{◌≡◌, ◌≤◌, ◌+◌, length}
+use Rattle.std.proofs.Common.{◌≡◌, ◌≤◌, ◌+◌, [], length}
 use Rattle.asm_text.specs.Source.{lines_of}
+use Rattle.objasm.specs.Conditions.{open_in}
 use Rattle.objasm.specs.Names.{meanings_of}
-use Rattle.objasm.specs.Source.{settings}
+use Rattle.objasm.specs.Source.{flow_in, settings}
 use Rattle.objasm.proofs.source.settle_lines.Given as goal
 
 abbrev pub invariant-loop-line : goal.invariant-loop-line
 invariant-loop-line l = record {
   count : l.number + length l.rest ≤ length l.source + 1;
-  same : settings l.pass (meanings_of l.names) l.number (lines_of l.rest) ≡ settings l.pass (meanings_of l.fn.names) 1 (lines_of l.source);
+  same : settings l.pass (flow_in (meanings_of l.names) (open_in l.conditions)) l.number (lines_of l.rest) ≡ settings l.pass (flow_in (meanings_of l.fn.names) []) 1 (lines_of l.source);
 }
 
 abbrev pub decreases-loop-line : goal.decreases-loop-line

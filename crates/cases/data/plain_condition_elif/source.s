@@ -1,0 +1,3 @@
+ IF 1=2
+ ELIF 1=1
+ ENDIF

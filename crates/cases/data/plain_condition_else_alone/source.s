@@ -1,0 +1,3 @@
+ MOV R0,#1
+ ELSE
+ ENDIF
