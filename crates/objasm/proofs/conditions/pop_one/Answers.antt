@@ -8,4 +8,4 @@ use Rattle.objasm.proofs.conditions.pop_one.Goals as goal
 pub returns : goal.returns
 returns c =
     let top = ap (λ (cs : List Condition). innermost (reverse cs)) (sym c.deref.ensures.value) ∙ sym c.last-found.ensures in
-    popped c.args.conditions.old.stack.items c.pop.new.self.items c.pop.result c.last-found.result c.pop.ensures.items (λ lt. c.pop.ensures.variant.1 (omega (arith, ap length c.deref.ensures.value, c.deref.ensures.len, lt))) top
+    popped c.args.conditions.now.stack.items c.pop.new.self.items c.pop.result c.last-found.result c.pop.ensures.items (λ lt. c.pop.ensures.variant.1 (omega (arith, ap length c.deref.ensures.value, c.deref.ensures.len, lt))) top
