@@ -15,6 +15,7 @@ use Rattle.objasm.specs.PlainLines.{Text, body_text}
 use Rattle.objasm.specs.declared.faults.LineFault.{LineFault}
 use Rattle.objasm.specs.declared.faults.LineFault.TheVariants as line
 use Rattle.objasm.specs.declared.maps.Pass.{Pass}
+use Rattle.objasm.specs.declared.maps.Pass.TheVariants.{First, Second}
 use Rattle.objasm.specs.declared.source.DialectFault.{DialectFault}
 use Rattle.objasm.specs.declared.source.DialectFault.TheVariants.{Memory, Line}
 use Rattle.objasm.specs.declared.source.PlainSource.{PlainSource}
