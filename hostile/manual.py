@@ -9,6 +9,7 @@ STATEMENTS, GRAPH, LOOPS, PATH = "Statements", "The graph", "Loops", "The path"
 VISITS, MACHINES, PROFILES, CERTIFICATES = "Visits", "Machine files", "Cycle profiles", "Certificates"
 DRAFTS, EDGES, RESPONSES, FACTS = "Drafts", "Edges", "Response times", "Files of facts"
 DIALECT = "Sources for ObjAsm, with the line"
+IMPORTS = "Code that is imported"
 
 OF_SOURCE = (ANY, SOURCES, DIALECT, IMAGES)
 OF_HANDLER = (*OF_SOURCE, PROFILES, STATEMENTS, GRAPH, LOOPS)
@@ -16,6 +17,7 @@ OF_HANDLER = (*OF_SOURCE, PROFILES, STATEMENTS, GRAPH, LOOPS)
 # The sections of REFUSALS.md whose refusals a command can meet.
 MET_BY = {
     "asm": OF_SOURCE,
+    "import": (ANY, IMPORTS),
     "list": OF_SOURCE,
     "plain": (ANY, DIALECT),
     "vectors": (ANY,),

@@ -26,6 +26,8 @@ fn argument<'a>(alloc: Global, row: &ArgumentRow) -> Arg<'a>
             .long(row.id)
             .value_name("FILE")
             .action(ArgAction::Append),
+        Form::Parts => arg.required(true).value_name("CODE@ADDRESS").num_args(2..),
+        Form::AddressOption => arg.long(row.id).value_name("ADDRESS"),
         Form::WordOption => arg.long(row.id).value_name("LABEL"),
         Form::DialectOption => arg.long(row.id).value_name("DIALECT"),
         Form::VectorCount => arg
