@@ -34,6 +34,8 @@ MET_BY = {
     "debug": (*OF_SOURCE, PROFILES, MACHINES),
 }
 STATUSES = {"Memory": 3, "Device": 4}
+# What is said of files of `import` without an address, or with an image in the place of one.
+OVER_ITS_CODE = b"error: each file needs CODE@ADDRESS, or one CODE --at ADDRESS; IMAGE is none of them\n"
 
 
 def complete(names, what):
@@ -155,6 +157,13 @@ class Is:
             return None
         status, out, err = self.wanted
         return f"{outcome}; not status {status}, {shown(out)}, {shown(err)}"
+
+
+class Usage:
+    """Wrong words: status 2, and something on standard error alone."""
+
+    def __call__(self, outcome, folder):
+        return None if outcome.status == 2 and outcome.err and not outcome.out else str(outcome)
 
 
 def refused(name, place=""):

@@ -198,6 +198,7 @@ def commands(bench):
     found.append(command(bench, "vectors 3 --seed 1", {}))
     code = {"code.bin": CODE, "fiq.bin": FIQ_CODE}
     found.append(command(bench, "import code.bin@0x8000 fiq.bin@0x1C made.image", code))
+    found.append(command(bench, "import --at 0x8000 code.bin made.image", {"code.bin": CODE}))
     complete((it.words[0] for it in found), "hostile/worked.py, commands")
     return found
 

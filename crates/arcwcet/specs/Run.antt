@@ -153,7 +153,7 @@ module _ {S : Type 0} (reads : Reading S) (writes : Writing S) (asked : Asked) (
     pub writes_it : writes between asked.word bytes written new
 
   -- the image's file was written and the report printed
-  pub record HasAssembled (out_old out_new : Option (List ℕ)) : Type 0 where
+  pub record HasReported (out_old out_new : Option (List ℕ)) : Type 0 where
     pub report : List ℕ
     pub written : HasWritten (Ok tt) report
     pub printed : Appends out_old out_new report
@@ -176,7 +176,7 @@ pub record RunsWriting {S O : Type 0} (reads : Reading S) (writes : Writing S) (
     (failures : O → ℕ) (Says : Saying) (asked : Asked) (IsImage : Imaging) (IsDenied : Type 0) (old new : S)
     (before after : O) (status : ℕ) : Type 0 where
   pub done : status ≡ 0
-      → HasAssembled reads writes asked IsImage old new (taken before) (taken after) × Says None
+      → HasReported reads writes asked IsImage old new (taken before) (taken after) × Says None
   pub denied : status ≡ 1 → IsDenied × (after ≡ before)
   pub failed : status ≡ 4
       → (FailsToReport reads writes asked IsImage old new (taken before) (taken after) (failures before)

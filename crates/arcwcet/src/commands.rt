@@ -32,7 +32,7 @@ fn run_report<O: Output, E: Output>(
     out: &mut O,
     err: &mut E,
 ) -> u8
-    requires { (asked_of job.entry.request.now).command ≢ Command.Import }
+    requires { (asked_of job.request.now).command ≢ Command.Import }
     ensures ran { let asked = asked_of job.entry.request.now in
         HasAnswered O.taken O.failures (Says E.taken E.failures asked err.old err.new)
         (report_of asked (inputs_lent job.entry.inputs) typed.now) out.old out.new result }

@@ -540,7 +540,7 @@ pub(crate) fn print<'b, O: Output>(
     typed: &[u8],
     out: &mut O,
 ) -> Result<bool, Refusal<'b>>
-    requires { (asked_of job.entry.request.now).command ≢ Command.Import }
+    requires { (asked_of job.request.now).command ≢ Command.Import }
     ensures { PrintsReport O.taken O.failures
         (report_of (asked_of job.entry.request.now) (inputs_lent job.entry.inputs) typed.now) out.old out.new
         (fault_only result) }

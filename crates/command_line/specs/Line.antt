@@ -151,9 +151,13 @@ in_columns rule = record rule { value_names = 1; parser = Some (parser.Signed (p
 abbrev pub counted : Rule → Rule
 counted rule = record rule { value_names = 1; parser = Some (parser.Signed (pos 1) (pos 1000000)) }
 
--- an argument takes two words or more
+-- an argument takes two words or more, of which none is empty
 abbrev pub at_least_two : ValueRange
 at_least_two = record { start_inclusive = 2; end_inclusive = usize_max }
+
+abbrev pub in_words : Rule → Rule
+in_words rule =
+    record rule { value_names = 1; range = Some at_least_two; parser = Some parser.NonEmptyString }
 
 abbrev pub rule_by : Form → Text → Rule
 rule_by form.File id = required_rule id
@@ -167,7 +171,7 @@ rule_by form.FiqSourceOption id = record (option_rule id) { value_names = 1 }
 rule_by form.FilesOption id = record (option_rule id) { value_names = 1; action = Some Append }
 rule_by form.WordOption id = record (option_rule id) { value_names = 1 }
 rule_by form.DialectOption id = record (option_rule id) { value_names = 1 }
-rule_by form.Parts id = record (required_rule id) { value_names = 1; range = Some at_least_two }
+rule_by form.Parts id = in_words (required_rule id)
 rule_by form.AddressOption id = record (option_rule id) { value_names = 1 }
 rule_by form.VectorCount id = counted (required_rule id)
 rule_by form.NumberOption id = numbered (option_rule id)
@@ -347,8 +351,8 @@ with_part word asked =
       places = asked.places ++ place_at asked.at word ∷ [];
     }
 
--- one more of the words of which the last names the image, so that the one before it names a file; an empty
--- word names none
+-- one more of the words of which the last names the image, so that the one before it names a file; no word is
+-- empty
 abbrev pub with_word_after : Text → Text → Asked → Asked
 with_word_after [] word asked = record asked { word = word }
 with_word_after (byte ∷ rest) word asked = record (with_part (byte ∷ rest) asked) { word = word }

@@ -17,10 +17,9 @@ returns-in-Import-clause-done g c =
     let ran = c.run_import in
     let says = Says g.E.Output.taken g.E.Output.failures asked c.args.err.now ran.new.err in
     subst (λ (k : Command). RunsAs g.S.Store.read_gives g.S.Store.write_gives g.I.Input.remaining g.I.Input.failures g.O.Output.taken g.O.Output.failures says asked c.args.store.now ran.new.store c.args.input.now c.args.input.now c.args.out.now ran.new.out ran.result k)
-    (sym c.in-Import.is)
-    (
+    (sym c.in-Import.is) (
       ran.ensures.ran c.args.store.now (kept_of files) c.in-Ok.ensures.read
-      (c.others.ensures ∙ others_split (λ n. n.now) (λ v. v.items) c.args.asked.profile files.profile (bytes_kept files.others.items) c.in-Ok.ensures.named),
+          (c.others.ensures ∙ others_split (λ n. n.now) (λ v. v.items) c.args.asked.profile files.profile (bytes_kept files.others.items) c.in-Ok.ensures.named),
       refl,
     )
 
