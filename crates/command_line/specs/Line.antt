@@ -151,13 +151,13 @@ in_columns rule = record rule { value_names = 1; parser = Some (parser.Signed (p
 abbrev pub counted : Rule → Rule
 counted rule = record rule { value_names = 1; parser = Some (parser.Signed (pos 1) (pos 1000000)) }
 
--- an argument takes two words or more, of which none is empty
-abbrev pub at_least_two : ValueRange
-at_least_two = record { start_inclusive = 2; end_inclusive = usize_max }
+-- an argument takes one word or more, of which none is empty; options may stand between them
+abbrev pub at_least_one : ValueRange
+at_least_one = record { start_inclusive = 1; end_inclusive = usize_max }
 
 abbrev pub in_words : Rule → Rule
 in_words rule =
-    record rule { value_names = 1; range = Some at_least_two; parser = Some parser.NonEmptyString }
+    record rule { value_names = 1; range = Some at_least_one; parser = Some parser.NonEmptyString }
 
 abbrev pub rule_by : Form → Text → Rule
 rule_by form.File id = required_rule id

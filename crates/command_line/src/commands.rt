@@ -31,7 +31,7 @@ fn argument<'a>(alloc: Global, row: &ArgumentRow) -> Arg<'a>
             .required(true)
             .value_name("CODE@ADDRESS")
             .value_parser(ValueParser::NonEmptyString)
-            .num_args(2..),
+            .num_args(1..),
         Form::AddressOption => arg.long(row.id).value_name("ADDRESS"),
         Form::WordOption => arg.long(row.id).value_name("LABEL"),
         Form::DialectOption => arg.long(row.id).value_name("DIALECT"),
