@@ -7,7 +7,7 @@ import struct
 
 import readers
 import worked
-from manual import ALL_KEYS, SAMPLES, Allowed, Is, fault_of, refused, refusal
+from manual import ALL_KEYS, OVER_ITS_CODE, SAMPLES, Allowed, Is, Usage, fault_of, refused, refusal
 from running import Trial, shown
 
 MOST = 16_777_216
@@ -250,6 +250,64 @@ def images(bench):
         yield explained(bench, f"image: {name}", ["forged.image", "handler.toml"], files)
     for name, data in [*cuts(TWO), *changed_bytes(TWO), *large_images()]:
         yield from read_source(bench, f"image: {name}", data, "0x8000")
+
+
+class ImportIs:
+    """What `import` answers to parts, by their reader: the image's size and its spelling, or the refusal."""
+
+    def __init__(self, parts):
+        self.read = readers.imported(parts)
+
+    def __call__(self, outcome, folder):
+        if isinstance(self.read, tuple):
+            fault = refused(*self.read)(outcome, folder)
+            return fault or ("an image is written" if (folder / "made.image").exists() else None)
+        runs = readers.runs(self.read)
+        fault = Is(0, f"words {len(self.read)} segments {len(runs)}\n".encode())(outcome, folder)
+        if fault:
+            return fault
+        made = (folder / "made.image").read_bytes()
+        return None if made == readers.image_bytes(runs) else f"the image is written as {shown(made)}"
+
+
+# What stands behind a file's name and is no address.
+UNPLACED = ("", "@", "@0x", "@x", "@0X10", "@&8000", "@ 4", "@4 ", "@+4", "@-4", "@4@8", "@@4", "@0x4.0")
+UNPLACED += ("@1_0", "@4294967296", "@0x100000000", "@" + "9" * 1000, "@\u0664")
+
+
+def import_parts(seed, number):
+    """Parts of a few bytes at odd addresses, and as many words and parts as there may be, and more."""
+    most = bytes(4 * readers.MOST_WORDS)
+    yield "65,536 words", [(0, most)]
+    yield "65,536 words and a byte", [(0, most), (0x100000, b"x")]
+    yield "65,536 words, and the first again", [(0, most), (0, b"x")]
+    yield "16,777,216 bytes", [(0, bytes(MOST))]
+    yield "16 parts", [(0x8000 + 8 * n, b"x") for n in range(16)]
+    yield "17 parts", [(0x8000 + 8 * n, b"x") for n in range(17)]
+    yield "17 parts without a byte", [(1, b"")] * 17
+    chance = random.Random(f"imports {seed}")
+    for at in range(number):
+        parts = []
+        for _ in range(chance.choice((1, 2, 3, 5, 16))):
+            address = chance.choice(EDGES) if chance.random() < 0.4 else 0x8000 + 4 * chance.randrange(200)
+            parts.append((address, chance.randbytes(chance.randrange(20))))
+        yield f"parts by chance {at} of seed {seed}", parts
+
+
+def imports(bench):
+    for name, parts in import_parts(bench.seed, 2000):
+        files = {f"{n}.bin": data for n, (_, data) in enumerate(parts)}
+        words = [f"{n}.bin@{(hex if n % 2 else str)(address)}" for n, (address, _) in enumerate(parts)]
+        yield Trial(f"import: {name}", ["import", *words, "made.image"], ImportIs(parts), files)
+    for behind in UNPLACED:
+        for words in ([f"code.bin{behind}"], [f"code.bin{behind}", "code.bin@4"]):
+            words = ["import", *words, "made.image"]
+            yield Trial(f"import: {words[1:-1]}", words, Is(2, b"", OVER_ITS_CODE), {"code.bin": b"x"})
+    for words in (["", "code.bin@4"], ["code.bin@4", ""], ["code.bin@4", "", "made.image"]):
+        yield Trial(f"import: {words}", ["import", *words], Usage(), {"code.bin": b"x"})
+    yield Trial("import: no name", ["import", "@4", "made.image"], refused("Device"))
+    words, files = ["import", "long.bin@0", "made.image"], {"long.bin": lambda: bytes(MOST + 1)}
+    yield Trial("import: 16,777,217 bytes", words, refused("InputTooLong"), files)
 
 
 def explained(bench, name, words, files):
@@ -745,6 +803,7 @@ def deep(bench):
 def trials(bench):
     return [
         *images(bench),
+        *imports(bench),
         *statements(bench),
         *statement_limits(bench),
         *begun_statements(bench),

@@ -9,6 +9,7 @@ STATEMENTS, GRAPH, LOOPS, PATH = "Statements", "The graph", "Loops", "The path"
 VISITS, MACHINES, PROFILES, CERTIFICATES = "Visits", "Machine files", "Cycle profiles", "Certificates"
 DRAFTS, EDGES, RESPONSES, FACTS = "Drafts", "Edges", "Response times", "Files of facts"
 DIALECT = "Sources for ObjAsm, with the line"
+IMPORTS = "Code that is imported"
 
 OF_SOURCE = (ANY, SOURCES, DIALECT, IMAGES)
 OF_HANDLER = (*OF_SOURCE, PROFILES, STATEMENTS, GRAPH, LOOPS)
@@ -16,6 +17,7 @@ OF_HANDLER = (*OF_SOURCE, PROFILES, STATEMENTS, GRAPH, LOOPS)
 # The sections of REFUSALS.md whose refusals a command can meet.
 MET_BY = {
     "asm": OF_SOURCE,
+    "import": (ANY, IMPORTS),
     "list": OF_SOURCE,
     "plain": (ANY, DIALECT),
     "vectors": (ANY,),
@@ -32,6 +34,8 @@ MET_BY = {
     "debug": (*OF_SOURCE, PROFILES, MACHINES),
 }
 STATUSES = {"Memory": 3, "Device": 4}
+# What is said of files of `import` without an address, or with an image in the place of one.
+OVER_ITS_CODE = b"error: import needs CODE@ADDRESS .., or one CODE --at ADDRESS, and an IMAGE beside\n"
 
 
 def complete(names, what):
@@ -153,6 +157,13 @@ class Is:
             return None
         status, out, err = self.wanted
         return f"{outcome}; not status {status}, {shown(out)}, {shown(err)}"
+
+
+class Usage:
+    """Wrong words: status 2, and something on standard error alone."""
+
+    def __call__(self, outcome, folder):
+        return None if outcome.status == 2 and outcome.err and not outcome.out else str(outcome)
 
 
 def refused(name, place=""):

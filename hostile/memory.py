@@ -91,7 +91,7 @@ def refused_in_turn(bench, command):
     """A trial for each request of a command, once and from then on, and for one more than it makes."""
     most = requests_of(bench, command)
     found = []
-    olds = (None, OLD_IMAGE) if command.words[:1] == ["asm"] else (None,)
+    olds = (None, OLD_IMAGE) if command.words[:1] in (["asm"], ["import"]) else (None,)
     for old in olds:
         files = command.files if old is None else {**command.files, "made.image": old}
         image = old if command.image is None else command.image

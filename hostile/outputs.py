@@ -1,5 +1,6 @@
 """Streams and files that fail, go away, never end or cannot be used."""
 
+import itertools
 import os
 import shlex
 import shutil
@@ -7,7 +8,7 @@ import stat
 import sys
 
 import worked
-from manual import Allowed, Is, refused
+from manual import OVER_ITS_CODE, Allowed, Is, Usage, refused
 from memory import OLD_IMAGE
 from running import Trial, shown
 
@@ -155,22 +156,23 @@ def locked_folder(folder):
     (folder / "locked").mkdir(mode=0o555)
 
 
-def image_files(command):
-    """Names under which no image can be written, and what is there then."""
-    source, line, image = command.files["handler.s"], command.outcome.out, command.image
+def image_files(command, file, over):
+    """Names under which no image can be written, and what is there then; and that of a file that is read,
+    with what is said of it."""
+    source, line, image = command.files[file], command.outcome.out, command.image
     pipe = "mkfifo pipe; cat pipe >copy & {}; status=$?; wait; exit $status"
     rows = [
         ("a folder", "folder", lambda folder: (folder / "folder").mkdir(), "", FAILED),
-        ("a name within a file", "handler.s/made.image", None, "", Leaves(FAILED, "handler.s", source)),
+        ("a name within a file", f"{file}/made.image", None, "", Leaves(FAILED, file, source)),
         ("a folder that is missing", "missing/made.image", None, "", FAILED),
         ("a folder of the system", "/proc/made.image", None, "", FAILED),
         ("a link to itself", "loop", lambda folder: (folder / "loop").symlink_to("loop"), "", FAILED),
         ("a name of 300 letters", "n" * 300, None, "", FAILED),
         ("a name of 5,000 letters", "n" * 5000, None, "", FAILED),
-        ("an empty name", "", None, "", Allowed("asm")),
+        ("an empty name", "", None, "", Allowed(command.words[0])),
         ("standard output", "/dev/stdout", None, "", Is(0, image + line)),
         ("a pipe", "pipe", None, pipe, Leaves(Is(0, line), "copy", image)),
-        ("the source", "handler.s", None, "", Leaves(Is(2, b"", OVER_ITS_SOURCE), "handler.s", source)),
+        ("a file that is read", file, None, "", Leaves(Is(2, b"", over), file, source)),
     ]
     if not os.geteuid():
         rows.append(("a full device", "full", full_device, "", FAILED))
@@ -183,7 +185,8 @@ def image_files(command):
     for name, word, prepare, shell, judge in rows:
         files = {**command.files, **({"old": OLD_IMAGE} if word == "old" else {})}
         how = {"prepare": prepare, "shell": shell}
-        yield Trial(f"asm, the image's file: {name}", ["asm", "handler.s", word], judge, files, **how)
+        words = [*command.words[:-1], word]
+        yield Trial(f"{command.words[0]}, the image's file: {name}", words, judge, files, **how)
 
 
 def full_disks(bench):
@@ -191,14 +194,13 @@ def full_disks(bench):
 
     No part of an image may stay. What stood in the file before is lost when it is opened.
     """
-    source = b"         DCD    1\n" * 1000
-    for limit in (0, 1):
-        for old in (None, OLD_IMAGE):
-            files = {"handler.s": source, **({"made.image": old} if old else {})}
-            name = f"asm, the image's file, {'old' if old else 'new'}: {1024 * limit} bytes at most"
-            shell = f"trap '' XFSZ; ulimit -f {limit}; exec {{}}"
-            judge = Leaves(FAILED, "made.image", None)
-            yield Trial(name, ["asm", "handler.s", "made.image"], judge, files, shell=shell)
+    sources = (["asm", "handler.s"], b"         DCD    1\n" * 1000), (["import", "code.bin@0"], bytes(4000))
+    for (words, source), limit, old in itertools.product(sources, (0, 1), (None, OLD_IMAGE)):
+        files = {words[1].partition("@")[0]: source, **({"made.image": old} if old else {})}
+        name = f"{words[0]}, the image's file, {'old' if old else 'new'}: {1024 * limit} bytes at most"
+        shell = f"trap '' XFSZ; ulimit -f {limit}; exec {{}}"
+        judge = Leaves(FAILED, "made.image", None)
+        yield Trial(name, [*words, "made.image"], judge, files, shell=shell)
 
 
 def long_file(name):
@@ -249,16 +251,20 @@ def files(commands):
     """Each file that a command reads, replaced by what cannot be read, never ends, or is a pipe."""
     for it in commands:
         right = Is(it.outcome.status, it.outcome.out, it.outcome.err)
-        for at, word in enumerate(it.words):
+        for at, whole in enumerate(it.words):
+            # Of import an address may stand behind the file's name.
+            word, behind = whole, ""
+            if it.words[0] == "import" and whole not in it.files:
+                word, behind = whole.partition("@")[0], whole[whole.find("@") :]
             if word not in it.files:
                 continue
             for name, other, prepare, shell, found in file_rows(word):
                 judge = unread(it, other, *found) if found else right
-                words = [*it.words[:at], other, *it.words[at + 1 :]]
+                words = [*it.words[:at], other + behind, *it.words[at + 1 :]]
                 how = {"stdin": it.stdin, "prepare": prepare, "shell": shell}
                 yield Trial(f"{it.name}: for {word} {name}", words, judge, it.files, **how)
             if it.words[0] != "debug":
-                words = [*it.words[:at], "/dev/stdin", *it.words[at + 1 :]]
+                words = [*it.words[:at], "/dev/stdin" + behind, *it.words[at + 1 :]]
                 yield Trial(f"{it.name}: {word} on standard input", words, right, it.files, stdin=word)
 
 
@@ -326,25 +332,20 @@ def lines(command):
         yield Trial(f"the command line: {name} that is no UTF-8", [], Allowed("bound"), shell=shell)
 
 
-class Usage:
-    """Wrong words: status 2, and something on standard error alone."""
-
-    def __call__(self, outcome, folder):
-        return None if outcome.status == 2 and outcome.err and not outcome.out else str(outcome)
-
-
 def trials(bench):
     commands = worked.commands(bench)
     by_name = {it.name: it for it in commands}
-    asm = by_name["asm handler.s made.image"]
-    named = [it for it in commands if it.words[0] in ("asm", "list", "draft") or "--profile" in it.words]
+    asm, made = by_name["asm handler.s made.image"], by_name["import --at 0x8000 code.bin made.image"]
+    reading = ("asm", "import", "list", "draft")
+    named = [it for it in commands if it.words[0] in reading or "--profile" in it.words]
     plain = [it for it in commands if "handler.s" in it.words and "--profile" not in it.words]
     return [
         *streams([*commands, *worked.each_answer(bench)]),
         *progress(commands),
         *long_answers(bench),
         *fronts(it for it in plain if it.words[0] != "asm"),
-        *image_files(asm),
+        *image_files(asm, "handler.s", OVER_ITS_SOURCE),
+        *image_files(made, "code.bin", OVER_ITS_CODE),
         *full_disks(bench),
         *files(named),
         *sessions(by_name["debug handler.s machine.toml"]),

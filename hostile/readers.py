@@ -102,6 +102,27 @@ def read_image(data):
     return "TrailingBytes" if len(data) > at else words
 
 
+def imported(parts):
+    """The words of the image of parts, each an address and its bytes; or the first fault with its address."""
+    if len(parts) > MOST_SEGMENTS:
+        return "TooManyParts", ""
+    words = {}
+    for address, data in parts:
+        for at in range(0, len(data), 4):
+            place = address + at
+            faults = {
+                "Misaligned": place % 4,
+                "OutOfRange": not holds(place),
+                "Overlap": place in words,
+                "TooLong": len(words) == MOST_WORDS,
+            }
+            fault = next((name for name, it in faults.items() if it), None)
+            if fault:
+                return fault, f" at {place:X}"
+            words[place] = least(data[at : at + 4])
+    return words
+
+
 def labels(source):
     """The names of a source's labels, where its lines are right."""
     return set(re.findall(r"^([A-Za-z_]\w*)", source.decode(), re.M))

@@ -132,6 +132,9 @@ ptr      RN     4
 start    MOV    ptr,#turns - 1
          SUBS   PC,R14,#4
 """
+# The same as SOURCE, as another tool writes it: each file at its address.
+CODE = bytes.fromhex("0300a0e3010050e2fdffff1a04f05ee2")
+FIQ_CODE = bytes.fromhex("04f05ee2")
 # A machine that goes round for long: its trace does not fit into a pipe.
 ROUND = b"again    B      again\n"
 LONG = b"pc = 0x8000\nsteps = 5000\n"
@@ -193,6 +196,9 @@ def commands(bench):
     found.append(command(bench, f"{visited} --every 5 --waited 7 --within 300 irq.s irq.toml 0x18", files))
     found.append(command(bench, "list --dialect objasm dialect.s", {"dialect.s": DIALECT}))
     found.append(command(bench, "vectors 3 --seed 1", {}))
+    code = {"code.bin": CODE, "fiq.bin": FIQ_CODE}
+    found.append(command(bench, "import code.bin@0x8000 fiq.bin@0x1C made.image", code))
+    found.append(command(bench, "import --at 0x8000 code.bin made.image", {"code.bin": CODE}))
     complete((it.words[0] for it in found), "hostile/worked.py, commands")
     return found
 
@@ -247,7 +253,12 @@ def cases():
         plain = [at for at, it in enumerate(words) if not it.startswith("-")]
         if words[:1] == ["asm"] and len(plain) == 3:
             words[plain[2]] = "made.image"
-        yield folder.name, words, {name: held[name] for name in held if name in words}, held
+        named = set(words)
+        if words[:1] == ["import"]:
+            named = {it for word in words[:-1] for it in (word, word.partition("@")[0])}
+            if len(plain) > 2 and words[-1] not in named:
+                words[-1] = "made.image"
+        yield folder.name, words, {name: held[name] for name in held if name in named}, held
 
 
 def each_answer(bench):

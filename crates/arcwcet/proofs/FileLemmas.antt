@@ -5,7 +5,7 @@ use Rattle.std.specs.Borrow.{Bor}
 use Rattle.std.specs.List.{cons_option}
 use Rattle.std.specs.declared.alloc.Global.{Global}
 use Rattle.std.proofs.lemmas.List.{append-nil, append_assoc, at_drop_all, at_drop_more, map-append}
-use Rattle.arcwcet.specs.Files.{FailsToRead, ReadsAll, Reading, Texts, inputs, inputs_in}
+use Rattle.arcwcet.specs.Files.{FailsToRead, ReadsAll, Reading, Texts, inputs, inputs_in, others_in}
 use Rattle.sources.specs.declared.file.Dialect.{Dialect}
 use Rattle.arcwcet.specs.declared.fault.StoreFault.{StoreFault}
 
@@ -86,3 +86,10 @@ inputs_split f g None None files both dialect = refl
 inputs_split f g (Some n) (Some r) files both dialect = refl
 inputs_split f g None (Some r) files both dialect = absurd (cc both)
 inputs_split f g (Some n) None files both dialect = absurd (cc both)
+
+pub others_split : {X Y : Type 0} (f : X → List ℕ) (g : Y → List ℕ) (name : Option X) (read : Option Y) (files : Texts) → is_some read ≡ is_some name
+    → files ≡ others_in (option_map f name) (cons_option (option_map g read) files)
+others_split f g None None files both = refl
+others_split f g (Some n) (Some r) files both = refl
+others_split f g None (Some r) files both = absurd (cc both)
+others_split f g (Some n) None files both = absurd (cc both)

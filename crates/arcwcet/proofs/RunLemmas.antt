@@ -1,5 +1,5 @@
 -- What a run of a command did, from what its reads and its call returned.
-use Rattle.std.proofs.Common.{◌≡◌, ◌≢◌, ◌∙◌, ℕ, Bool, true, false, codes, List, [], take, Option, Some, None, Result, Ok, Err, OnOk, refl, sym, ap, subst, inl, inr, arith}
+use Rattle.std.proofs.Common.{◌≡◌, ◌≢◌, ◌∙◌, ◌⊎◌, ℕ, Bool, true, false, codes, List, [], take, Option, Some, None, Result, Ok, Err, OnOk, refl, sym, ap, subst, inl, inr, arith}
 use Rattle.std.proofs.KnownBytes.{Appends-nil}
 use Rattle.std.specs.Prelude.{OnErr}
 use Rattle.std.specs.Result.{IsErrAnd}
@@ -17,11 +17,15 @@ use Rattle.source_reports.specs.Assembly.{IsSourceRefused, IsWritten}
 use Rattle.command_line.specs.Line.{Asked}
 use Rattle.command_line.specs.declared.line.Command.{Command}
 use Rattle.command_line.specs.declared.line.Command.TheVariants as command
-use Rattle.arcwcet.specs.Files.{FailsToRead, Inputs, ReadsAll, Reading, Texts, Writing, inputs_of, names_of}
+use Rattle.arcwcet.specs.Files.{FailsToRead, Inputs, ReadsAll, Reading, Texts, Writing, inputs_of, names_of, others_in}
 use Rattle.arcwcet.specs.Refusals.{Says, SaysRefused, Saying, TakesSome, refusal_of, shows_why, store_fault_name}
 use Rattle.arcwcet.specs.Facts.{AreFacts, HasNoFacts}
 use Rattle.arcwcet.specs.Reports.{Plain, Report, answered, by_facts, judged, priced, report_by, report_of, unpriced}
-use Rattle.arcwcet.specs.Run.{HasAnswered, HasPrinted, HasWritten, PrintsReport, Runs, RunsAsm, RunsBy, RunsOf, answer_status, report_from, report_status, store_status}
+use Rattle.arcwcet.specs.Import.{IsImported, import_fault_text, import_status, parts_of, placed}
+use Rattle.imports.specs.Imported.{imported}
+use Rattle.imports.specs.declared.fault.ImportFault.{ImportFault}
+use Rattle.imports.specs.declared.fault.ImportFault.TheVariants as import_fault
+use Rattle.arcwcet.specs.Run.{HasAnswered, HasPrinted, HasWritten, Imaging, IsRefusedImport, IsRefusedRun, PrintsReport, Runs, RunsAsm, RunsBy, RunsImport, RunsOf, RunsWriting, answer_status, report_from, report_status, store_status}
 use Rattle.arcwcet.specs.declared.fault.StoreFault.{StoreFault}
 use Rattle.arcwcet.specs.declared.fault.StoreFault.TheVariants as store_fault
 
@@ -200,22 +204,23 @@ module _ {S O : Type 0} (reads : Reading S) (taken : O → Option (List ℕ)) (f
       → RunsOf reads taken failures Said asked typed old new out out status
   unread_of out fault fails = unread reads taken failures Said IsTextOf IsFaultOf (names_of asked) old new out out fault fails refl
 
--- ## `asm`
+-- ## Of a command that writes an image
 
 -- nothing was printed
 abbrev pub Nothing : Bool → Texts → List ℕ → Type 0
 Nothing answer files text = ⊥
 
-module _ {S O : Type 0} (reads : Reading S) (writes : Writing S) (taken : O → Option (List ℕ)) (failures : O → ℕ) (Said : Saying) (asked : Asked) (old new : S) where
-  abbrev IsAsmFault : Texts → ReportFault → Type 0
-  IsAsmFault files = (report_from asked [] files).IsFault
+module _ {S O : Type 0} (reads : Reading S) (writes : Writing S) (taken : O → Option (List ℕ)) (failures : O → ℕ) (Said : Saying) (asked : Asked) (IsImage : Imaging) (IsDenied : Type 0) (old new : S) where
+  abbrev pub Wrote : (before after : O) → ℕ → Type 0
+  Wrote = RunsWriting reads writes taken failures Said asked IsImage IsDenied old new
 
-  pub asm_quiet : (out : O) (status : ℕ) → Runs reads taken failures Said Nothing IsAsmFault (names_of asked) old new out out status → RunsAsm reads writes taken failures Said asked old new out out status
-  asm_quiet out status r = record {
+  pub written_quiet : (IsFault : Texts → ReportFault → Type 0) → (IsRefusedRun reads (names_of asked) old new Said IsFault → IsDenied)
+      → (out : O) (status : ℕ) → Runs reads taken failures Said Nothing IsFault (names_of asked) old new out out status → Wrote out out status
+  written_quiet IsFault denies out status r = record {
     done = λ e. absurd (r.done e).0.printed.is_text;
     denied = λ e. elim (r.denied e) [
       | inl printed ↦ absurd printed.0.printed.is_text
-      | inr refused ↦ refused
+      | inr refused ↦ (denies refused.0, refused.1)
     ];
     failed = λ e. elim (r.failed e).0 [
       | inl unread ↦ (inr (inr unread.0, unread.1), (r.failed e).1)
@@ -224,6 +229,61 @@ module _ {S O : Type 0} (reads : Reading S) (writes : Writing S) (taken : O → 
     out_of_memory = r.out_of_memory;
     known = r.known;
   }
+
+  module _ (files : Texts) (between : S) (read : ReadsAll reads old (names_of asked) files between) (bytes report : List ℕ) (image : IsImage files bytes report) where
+    has_written : (written : Result (Unit {0}) StoreFault) → writes between asked.word bytes written new → HasWritten reads writes asked IsImage old new written report
+    has_written written h = record { files = files; bytes = bytes; between = between; read = read; is = image; writes_it = h }
+
+    -- the image's file could not be written
+    pub unwritten : (out : O) (fault : StoreFault) → fault ≡ store_fault.Device → writes between asked.word bytes (Err fault) new → Said (Some (store_fault_name fault)) → (status : ℕ) → status ≡ store_status fault
+        → Wrote out out status
+    unwritten out fault device h said status is =
+        let four : status ≡ 4 = is ∙ ap store_status device in
+        let written : HasWritten reads writes asked IsImage old new (Err store_fault.Device) report = has_written (Err store_fault.Device) (subst (λ (f : StoreFault). writes between asked.word bytes (Err f) new) device h) in
+        record {
+          done = λ e. absurd (omega (arith, e, four));
+          denied = λ e. absurd (omega (arith, e, four));
+          failed = λ e. (inr (inl (record { report = report; written = written }), refl), subst (λ (f : StoreFault). Said (Some (store_fault_name f))) device said);
+          out_of_memory = λ e. absurd (omega (arith, e, four));
+          known = inr (inr (inr four));
+        }
+
+    module _ (h : writes between asked.word bytes (Ok tt) new) (before after : O) where
+      -- the report was printed
+      pub written_done : Appends (taken before) (taken after) report → Said None → Wrote before after 0
+      written_done printed said = record {
+        done = λ e. (record { report = report; written = has_written (Ok tt) h; printed = printed }, said);
+        denied = λ e. absurd (omega (arith, e));
+        failed = λ e. absurd (omega (arith, e));
+        out_of_memory = λ e. absurd (omega (arith, e));
+        known = inl refl;
+      }
+
+      -- the output failed within it
+      pub unprinted : TakesFront (taken before) (taken after) report → FailsSince (failures before) (failures after) → Said (Some (codes "Device")) → (status : ℕ) → status ≡ 4
+          → Wrote before after status
+      unprinted front failed said status four = record {
+        done = λ e. absurd (omega (arith, e, four));
+        denied = λ e. absurd (omega (arith, e, four));
+        failed = λ e. (inl (record { report = report; written = has_written (Ok tt) h; taken = front; failed = failed }), said);
+        out_of_memory = λ e. absurd (omega (arith, e, four));
+        known = inr (inr (inr four));
+      }
+
+-- ## `asm`
+
+module _ {S O : Type 0} (reads : Reading S) (writes : Writing S) (taken : O → Option (List ℕ)) (failures : O → ℕ) (Said : Saying) (asked : Asked) (old new : S) where
+  abbrev IsAsmFault : Texts → ReportFault → Type 0
+  IsAsmFault files = (report_from asked [] files).IsFault
+
+  abbrev IsAsmImage : Imaging
+  IsAsmImage files = IsWritten (inputs_of asked files).source
+
+  abbrev IsAsmDenied : Type 0
+  IsAsmDenied = IsRefusedRun reads (names_of asked) old new Said IsAsmFault
+
+  pub asm_quiet : (out : O) (status : ℕ) → Runs reads taken failures Said Nothing IsAsmFault (names_of asked) old new out out status → RunsAsm reads writes taken failures Said asked old new out out status
+  asm_quiet = written_quiet reads writes taken failures Said asked IsAsmImage IsAsmDenied old new IsAsmFault (λ refused. refused)
 
   -- the source could not be read
   pub asm_unread : (out : O) (fault : StoreFault) → FailsToRead reads old (names_of asked) fault new → Said (Some (store_fault_name fault)) → (status : ℕ) → status ≡ store_status fault
@@ -243,51 +303,112 @@ module _ {S O : Type 0} (reads : Reading S) (writes : Writing S) (taken : O → 
         (subst (λ (k : Command). (report_by asked (inputs_of asked files) [] k).IsFault fault) (sym is_asm) of_asm) (λ other. refl) (λ d. absurd (holds.0 d)) said status is)
 
     module _ (between : S) (read : ReadsAll reads old (names_of asked) files between) (i : Inputs) (split : i ≡ inputs_of asked files) (bytes report : List ℕ) (image : IsWritten i.source bytes report) where
-      has_written : (written : Result (Unit {0}) StoreFault) → writes between asked.word bytes written new → HasWritten reads writes asked old new written report
-      has_written written h = record {
-        files = files;
-        bytes = bytes;
-        between = between;
-        read = read;
-        is = subst (λ (j : Inputs). IsWritten j.source bytes report) split image;
-        writes_it = h;
-      }
+      asm_image : IsAsmImage files bytes report
+      asm_image = subst (λ (j : Inputs). IsWritten j.source bytes report) split image
 
       -- the image's file could not be written
       pub asm_unwritten : (out : O) (fault : StoreFault) → fault ≡ store_fault.Device → writes between asked.word bytes (Err fault) new → Said (Some (store_fault_name fault)) → (status : ℕ) → status ≡ store_status fault
           → RunsAsm reads writes taken failures Said asked old new out out status
-      asm_unwritten out fault device h said status is =
-          let four : status ≡ 4 = is ∙ ap store_status device in
-          let written : HasWritten reads writes asked old new (Err store_fault.Device) report = has_written (Err store_fault.Device) (subst (λ (f : StoreFault). writes between asked.word bytes (Err f) new) device h) in
-          record {
-            done = λ e. absurd (omega (arith, e, four));
-            denied = λ e. absurd (omega (arith, e, four));
-            failed = λ e. (inr (inl (record { report = report; written = written }), refl), subst (λ (f : StoreFault). Said (Some (store_fault_name f))) device said);
-            out_of_memory = λ e. absurd (omega (arith, e, four));
-            known = inr (inr (inr four));
-          }
+      asm_unwritten = unwritten reads writes taken failures Said asked IsAsmImage IsAsmDenied old new files between read bytes report asm_image
 
       module _ (h : writes between asked.word bytes (Ok tt) new) (before after : O) where
         -- the report was printed
         pub asm_done : Appends (taken before) (taken after) report → Said None → RunsAsm reads writes taken failures Said asked old new before after 0
-        asm_done printed said = record {
-          done = λ e. (record { report = report; written = has_written (Ok tt) h; printed = printed }, said);
-          denied = λ e. absurd (omega (arith, e));
-          failed = λ e. absurd (omega (arith, e));
-          out_of_memory = λ e. absurd (omega (arith, e));
-          known = inl refl;
-        }
+        asm_done = written_done reads writes taken failures Said asked IsAsmImage IsAsmDenied old new files between read bytes report asm_image h before after
 
         -- the output failed within it
         pub asm_unprinted : TakesFront (taken before) (taken after) report → FailsSince (failures before) (failures after) → Said (Some (codes "Device")) → (status : ℕ) → status ≡ 4
             → RunsAsm reads writes taken failures Said asked old new before after status
-        asm_unprinted front failed said status four = record {
-          done = λ e. absurd (omega (arith, e, four));
-          denied = λ e. absurd (omega (arith, e, four));
-          failed = λ e. (inl (record { report = report; written = has_written (Ok tt) h; taken = front; failed = failed }), said);
-          out_of_memory = λ e. absurd (omega (arith, e, four));
-          known = inr (inr (inr four));
+        asm_unprinted = unprinted reads writes taken failures Said asked IsAsmImage IsAsmDenied old new files between read bytes report asm_image h before after
+
+-- ## `import`
+
+-- how a fault is reported
+data ImportExit (fault : ImportFault) : Type 0 where
+  by_memory : fault ≡ import_fault.Memory → ImportExit fault
+  by_other : (fault ≡ import_fault.Memory → ⊥) → import_status fault ≡ 1 → ImportExit fault
+
+import_exit : (fault : ImportFault) → ImportExit fault
+import_exit import_fault.Memory = by_memory refl
+import_exit import_fault.TooManyParts = by_other (λ e. cc e) refl
+import_exit (import_fault.Misaligned a) = by_other (λ e. cc e) refl
+import_exit (import_fault.OutOfRange a) = by_other (λ e. cc e) refl
+import_exit (import_fault.Overlap a) = by_other (λ e. cc e) refl
+import_exit (import_fault.TooLong a) = by_other (λ e. cc e) refl
+
+-- of the files but for a cycle profile's
+module _ (asked : Asked) (files others : Texts) (places : List (Option ℕ)) (same : places ≡ asked.places) (split : others ≡ others_in asked.profile files) where
+  pub import_of : (bytes report : List ℕ) → IsImported (placed places others) bytes report → IsImported (parts_of asked files) bytes report
+  import_of bytes report is =
+      subst (λ (o : Texts). IsImported (placed asked.places o) bytes report) split
+      (subst (λ (p : List (Option ℕ)). IsImported (placed p others) bytes report) same is)
+
+  pub import_refused_of : (fault : ImportFault) → (fault ≡ import_fault.Memory) ⊎ (imported (placed places others) ≡ Err fault) → (fault ≡ import_fault.Memory) ⊎ (imported (parts_of asked files) ≡ Err fault)
+  import_refused_of fault holds =
+      subst (λ (o : Texts). (fault ≡ import_fault.Memory) ⊎ (imported (placed asked.places o) ≡ Err fault)) split
+      (subst (λ (p : List (Option ℕ)). (fault ≡ import_fault.Memory) ⊎ (imported (placed p others) ≡ Err fault)) same holds)
+
+module _ {S O : Type 0} (reads : Reading S) (writes : Writing S) (taken : O → Option (List ℕ)) (failures : O → ℕ) (Said : Saying) (asked : Asked) (old new : S) where
+  abbrev pub IsImportImage : Imaging
+  IsImportImage files = IsImported (parts_of asked files)
+
+  abbrev IsImportDenied : Type 0
+  IsImportDenied = IsRefusedImport reads asked old new Said
+
+  -- none of a report's faults
+  abbrev pub NoFault : Texts → ReportFault → Type 0
+  NoFault files fault = ⊥
+
+  too_long : IsRefusedRun reads (names_of asked) old new Said NoFault → IsImportDenied
+  too_long (inl long) = inl long
+  too_long (inr refused) = absurd refused.refused
+
+  pub import_quiet : (out : O) (status : ℕ) → Runs reads taken failures Said Nothing NoFault (names_of asked) old new out out status → RunsImport reads writes taken failures Said asked old new out out status
+  import_quiet = written_quiet reads writes taken failures Said asked IsImportImage IsImportDenied old new NoFault too_long
+
+  -- a file could not be read
+  pub import_unread : (out : O) (fault : StoreFault) → FailsToRead reads old (names_of asked) fault new → Said (Some (store_fault_name fault)) → (status : ℕ) → status ≡ store_status fault
+      → RunsImport reads writes taken failures Said asked old new out out status
+  import_unread out fault fails said status is =
+      import_quiet out status (unread reads taken failures Said Nothing NoFault (names_of asked) old new out out fault fails refl said status is)
+
+  -- what they hold is refused
+  pub import_refused : (files : Texts) (out : O) → ReadsAll reads old (names_of asked) files new → (fault : ImportFault) → (fault ≡ import_fault.Memory) ⊎ (imported (parts_of asked files) ≡ Err fault)
+      → Said (Some (import_fault_text fault)) → (status : ℕ) → status ≡ import_status fault → RunsImport reads writes taken failures Said asked old new out out status
+  import_refused files out read fault holds said status is = elim (import_exit fault) [
+    | by_memory m ↦
+        let three : status ≡ 3 = is ∙ ap import_status m in
+        record {
+          done = λ e. absurd (omega (arith, e, three));
+          denied = λ e. absurd (omega (arith, e, three));
+          failed = λ e. absurd (omega (arith, e, three));
+          out_of_memory = λ e. (inr (inr (record { files = files; read = read })), refl, subst (λ (f : ImportFault). Said (Some (import_fault_text f))) m said);
+          known = inr (inr (inl three));
         }
+    | by_other memory one ↦
+        let here : status ≡ 1 = is ∙ one in
+        let refused : imported (parts_of asked files) ≡ Err fault = elim holds [ inl m ↦ absurd (memory m) | inr refused ↦ refused ] in
+        record {
+          done = λ e. absurd (omega (arith, e, here));
+          denied = λ e. (inr (record { files = files; read = read; fault = fault; not_memory = memory; refused = refused; said = said }), refl);
+          failed = λ e. absurd (omega (arith, e, here));
+          out_of_memory = λ e. absurd (omega (arith, e, here));
+          known = inr (inl here);
+        }
+  ]
+
+  module _ (files : Texts) (between : S) (read : ReadsAll reads old (names_of asked) files between) (bytes report : List ℕ) (image : IsImportImage files bytes report) where
+    pub import_unwritten : (out : O) (fault : StoreFault) → fault ≡ store_fault.Device → writes between asked.word bytes (Err fault) new → Said (Some (store_fault_name fault)) → (status : ℕ) → status ≡ store_status fault
+        → RunsImport reads writes taken failures Said asked old new out out status
+    import_unwritten = unwritten reads writes taken failures Said asked IsImportImage IsImportDenied old new files between read bytes report image
+
+    module _ (h : writes between asked.word bytes (Ok tt) new) (before after : O) where
+      pub import_done : Appends (taken before) (taken after) report → Said None → RunsImport reads writes taken failures Said asked old new before after 0
+      import_done = written_done reads writes taken failures Said asked IsImportImage IsImportDenied old new files between read bytes report image h before after
+
+      pub import_unprinted : TakesFront (taken before) (taken after) report → FailsSince (failures before) (failures after) → Said (Some (codes "Device")) → (status : ℕ) → status ≡ 4
+          → RunsImport reads writes taken failures Said asked old new before after status
+      import_unprinted = unprinted reads writes taken failures Said asked IsImportImage IsImportDenied old new files between read bytes report image h before after
 
 -- ## What a report answers, of the texts of its files
 
@@ -451,31 +572,32 @@ module _ {S I O : Type 0} (reads : Reading S) (writes : Writing S) (remaining : 
     RunsAs c = RunsBy reads writes remaining input_failures taken failures Said asked c old new input_old input_new before after status
 
     -- a command, by its own form if it has one
-    pub by_form : (c : Command) → (c ≡ command.Asm → RunsAs command.Asm) → (c ≡ command.Debug → RunsAs command.Debug)
+    pub by_form : (c : Command) → (c ≡ command.Asm → RunsAs command.Asm) → (c ≡ command.Import → RunsAs command.Import) → (c ≡ command.Debug → RunsAs command.Debug)
         → RunsOf reads taken failures Said asked [] old new before after status × (input_new ≡ input_old) → RunsAs c
-    by_form command.Asm asm debug plain = asm refl
-    by_form command.Debug asm debug plain = debug refl
-    by_form command.Version asm debug plain = plain
-    by_form command.List asm debug plain = plain
-    by_form command.Plain asm debug plain = plain
-    by_form command.Draft asm debug plain = plain
-    by_form command.DraftOn asm debug plain = plain
-    by_form command.Run asm debug plain = plain
-    by_form command.RunTo asm debug plain = plain
-    by_form command.Trace asm debug plain = plain
-    by_form command.TraceTo asm debug plain = plain
-    by_form command.Vectors asm debug plain = plain
-    by_form command.Bound asm debug plain = plain
-    by_form command.Tight asm debug plain = plain
-    by_form command.Check asm debug plain = plain
-    by_form command.Visits asm debug plain = plain
-    by_form command.Respond asm debug plain = plain
-    by_form command.Explain asm debug plain = plain
-    by_form command.Verdict asm debug plain = plain
-    by_form command.Justify asm debug plain = plain
-    by_form command.Follow asm debug plain = plain
-    by_form command.FollowVisits asm debug plain = plain
-    by_form command.Graph asm debug plain = plain
+    by_form command.Asm asm import debug plain = asm refl
+    by_form command.Import asm import debug plain = import refl
+    by_form command.Debug asm import debug plain = debug refl
+    by_form command.Version asm import debug plain = plain
+    by_form command.List asm import debug plain = plain
+    by_form command.Plain asm import debug plain = plain
+    by_form command.Draft asm import debug plain = plain
+    by_form command.DraftOn asm import debug plain = plain
+    by_form command.Run asm import debug plain = plain
+    by_form command.RunTo asm import debug plain = plain
+    by_form command.Trace asm import debug plain = plain
+    by_form command.TraceTo asm import debug plain = plain
+    by_form command.Vectors asm import debug plain = plain
+    by_form command.Bound asm import debug plain = plain
+    by_form command.Tight asm import debug plain = plain
+    by_form command.Check asm import debug plain = plain
+    by_form command.Visits asm import debug plain = plain
+    by_form command.Respond asm import debug plain = plain
+    by_form command.Explain asm import debug plain = plain
+    by_form command.Verdict asm import debug plain = plain
+    by_form command.Justify asm import debug plain = plain
+    by_form command.Follow asm import debug plain = plain
+    by_form command.FollowVisits asm import debug plain = plain
+    by_form command.Graph asm import debug plain = plain
 
   -- a file could not be read
   pub asked_unread : (old new : S) (input : I) (out : O) (fault : StoreFault) → FailsToRead reads old (names_of asked) fault new → Said (Some (store_fault_name fault)) → (status : ℕ) → status ≡ store_status fault
@@ -483,6 +605,7 @@ module _ {S I O : Type 0} (reads : Reading S) (writes : Writing S) (remaining : 
   asked_unread old new input out fault fails said status is =
       by_form old new input input out out status asked.command
       (λ e. (asm_unread reads writes taken failures Said asked old new out fault fails said status is, refl))
+      (λ e. (import_unread reads writes taken failures Said asked old new out fault fails said status is, refl))
       (λ e. (inr (inl (record { fault = fault; fails = fails; status_is = is; input_unread = refl; said = said }), refl)))
       (unread_of reads taken failures Said asked [] old new out fault fails said status is, refl)
 
@@ -502,6 +625,7 @@ module _ {S I O : Type 0} (reads : Reading S) (writes : Writing S) (remaining : 
     asked_out_of_memory =
         by_form store store input input out out 3 asked.command
         (λ e. (asm_quiet reads writes taken failures Said asked store store out 3 (run_out_of_memory Nothing (IsAsmFault reads writes taken failures Said asked store store)), refl))
+        (λ e. (import_quiet reads writes taken failures Said asked store store out 3 (run_out_of_memory Nothing (NoFault reads writes taken failures Said asked store store)), refl))
         (λ e. (inr (inr (inr (refl, refl, refl, said)), refl)))
         (run_out_of_memory (IsTextOf reads taken failures Said asked [] store store) (IsFaultOf reads taken failures Said asked [] store store), refl)
 

@@ -59,6 +59,11 @@ inputs_in dialect None files = inputs dialect None files
 inputs_in dialect (Some name) [] = inputs dialect None []
 inputs_in dialect (Some name) (profile ∷ files) = inputs dialect (Some profile) files
 
+-- the files but for a cycle profile's, which is in front where one is named
+abbrev pub others_in : (named : Option (List ℕ)) → Texts → Texts
+others_in None files = files
+others_in (Some name) files = drop 1 files
+
 abbrev pub inputs_of : Asked → Texts → Inputs
 inputs_of asked files = inputs_in (dialect_of asked.dialect) asked.profile files
 

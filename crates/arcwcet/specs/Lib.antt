@@ -1,6 +1,7 @@
 pub mod Announced
 pub mod Facts
 pub mod Files
+pub mod Import
 pub mod Input
 pub mod FileFaults
 pub mod Kept

@@ -1,6 +1,6 @@
 -- What a command prints of the bytes of its files, and why it refuses them: a line for each command.
-use Rattle.std.specs.Prelude.{◌≡◌, ℕ, Bool, true, false, List, [], codes, drop, Option, Some, None, Result, Ok}
-use Rattle.std.specs.Prelude.{Err, if◌then◌else◌, option_map, unwrap_or}
+use Rattle.std.specs.Prelude.{◌≡◌, ℕ, Bool, true, false, List, [], codes, drop, Option, Some, None, Result}
+use Rattle.std.specs.Prelude.{Ok, Err, if◌then◌else◌, option_map, unwrap_or}
 use Rattle.std.specs.List.{slice_get}
 use Rattle.std.specs.Option.{option_map_or}
 use Rattle.bus_ticks.specs.declared.profile.Profile.{Profile}
@@ -160,6 +160,10 @@ version_line = codes "arcwcet 1.0.0\n"
 abbrev pub version_report : Report
 version_report = unpriced (λ text. text ≡ version_line) (λ fault. fault ≡ report_fault.Device)
 
+-- `import` is no report of a source, and RunsImport says what it prints
+abbrev pub no_report : Report
+no_report = record { IsText = λ answer text. ⊥; IsFault = λ fault. ⊥ }
+
 -- what `vectors` prints
 abbrev pub vectors_report : CommandNumbers → Report
 vectors_report n = record { IsText = IsVectorsReport (unwrap_or n.vectors 0); IsFault = IsVectorsFault }
@@ -176,13 +180,15 @@ module _ (asked : Asked) (i : Inputs) (typed : List ℕ) where
   unfoldable pub report_by : Command → Report
   report_by command.Version = version_report
   report_by command.Asm = unpriced (IsAsmReport i.source) (IsSourceRefused i.source)
+  report_by command.Import = no_report
   report_by command.List = unpriced (IsListReport i.source) (IsSourceRefused i.source)
   report_by command.Plain = unpriced (IsPlainReport i.source.bytes) (IsPlainRefused i.source.bytes)
   report_by command.Draft = unpriced (IsDraftReport i.source asked.word) (IsDraftRefused i.source asked.word)
   report_by command.DraftOn =
       unpriced (IsDraftOnReport i.source i.second) (IsDraftOnRefused i.source i.second)
   report_by command.Run =
-      judged i.profile (IsMachineReport ShowsRegisters lines_end i.source i.second) (IsRunRefused i.source i.second)
+      judged i.profile (IsMachineReport ShowsRegisters lines_end i.source i.second)
+      (IsRunRefused i.source i.second)
   report_by command.RunTo =
       judged i.profile (IsRunToReport ShowsRegisters lines_end i.source i.second asked.word)
       (IsRunToRefused i.source i.second asked.word)

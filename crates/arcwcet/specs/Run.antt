@@ -7,6 +7,10 @@ use Rattle.handlers.specs.FaultText.{fault_text}
 use Rattle.source_reports.specs.Assembly.{IsWritten}
 use Rattle.arcwcet.specs.Files.{FailsToRead, ReadsAll, Reading, StopsReading, Texts, Writing}
 use Rattle.arcwcet.specs.Files.{inputs_of, names_of}
+use Rattle.arcwcet.specs.Import.{IsImported, import_fault_text, parts_of}
+use Rattle.imports.specs.Imported.{imported}
+use Rattle.imports.specs.declared.fault.ImportFault.{ImportFault}
+use Rattle.imports.specs.declared.fault.ImportFault.TheVariants as import_fault
 use Rattle.arcwcet.specs.Refusals.{Saying, refusal_of, store_fault_name}
 use Rattle.arcwcet.specs.Reports.{Report, report_of}
 use Rattle.outputs.specs.Output.{TakesFront, FailsSince}
@@ -131,20 +135,25 @@ module _ {S O : Type 0} (reads : Reading S) (taken : O → Option (List ℕ)) (f
       Runs reads taken failures Says (λ answer files. (report_from asked typed files).IsText answer)
       (λ files. (report_from asked typed files).IsFault) (names_of asked) old new before after status
 
--- ## `asm SOURCE IMAGE`
+-- ## Of a command that writes an image
 
-module _ {S : Type 0} (reads : Reading S) (writes : Writing S) (asked : Asked) (old new : S) where
-  -- the source was read, its image written, with that result, and the report is this
+-- the bytes of an image's file and the report, of the bytes of the files that were read
+abbrev pub Imaging : Type 1
+Imaging = Texts → (bytes report : List ℕ) → Type 0
+
+module _ {S : Type 0} (reads : Reading S) (writes : Writing S) (asked : Asked) (IsImage : Imaging)
+    (old new : S) where
+  -- the files were read, their image written, with that result, and the report is this
   pub record HasWritten (written : Result (Unit {0}) StoreFault) (report : List ℕ) : Type 0 where
     pub files : Texts
     pub bytes : List ℕ
     pub between : S
     pub read : ReadsAll reads old (names_of asked) files between
-    pub is : IsWritten (inputs_of asked files).source bytes report
+    pub is : IsImage files bytes report
     pub writes_it : writes between asked.word bytes written new
 
   -- the image's file was written and the report printed
-  pub record HasAssembled (out_old out_new : Option (List ℕ)) : Type 0 where
+  pub record HasReported (out_old out_new : Option (List ℕ)) : Type 0 where
     pub report : List ℕ
     pub written : HasWritten (Ok tt) report
     pub printed : Appends out_old out_new report
@@ -161,26 +170,54 @@ module _ {S : Type 0} (reads : Reading S) (writes : Writing S) (asked : Asked) (
     pub report : List ℕ
     pub written : HasWritten (Err store_fault.Device) report
 
--- What `asm` did, by its status: the image's file is written before anything is printed, and neither where
--- the source is refused.
-pub record RunsAsm {S O : Type 0} (reads : Reading S) (writes : Writing S) (taken : O → Option (List ℕ))
-    (failures : O → ℕ) (Says : Saying) (asked : Asked) (old new : S) (before after : O) (status : ℕ)
-    : Type 0 where
+-- What such a command did, by its status: the image's file is written before anything is printed, and neither
+-- where what the files hold is refused.
+pub record RunsWriting {S O : Type 0} (reads : Reading S) (writes : Writing S) (taken : O → Option (List ℕ))
+    (failures : O → ℕ) (Says : Saying) (asked : Asked) (IsImage : Imaging) (IsDenied : Type 0) (old new : S)
+    (before after : O) (status : ℕ) : Type 0 where
   pub done : status ≡ 0
-      → HasAssembled reads writes asked old new (taken before) (taken after) × Says None
-  pub denied : status ≡ 1
-      → IsRefusedRun reads (names_of asked) old new Says (λ files. (report_from asked [] files).IsFault)
-      × (after ≡ before)
+      → HasReported reads writes asked IsImage old new (taken before) (taken after) × Says None
+  pub denied : status ≡ 1 → IsDenied × (after ≡ before)
   pub failed : status ≡ 4
-      → (FailsToReport reads writes asked old new (taken before) (taken after) (failures before)
+      → (FailsToReport reads writes asked IsImage old new (taken before) (taken after) (failures before)
       (failures after)
-      ⊎ ((FailsToWrite reads writes asked old new
+      ⊎ ((FailsToWrite reads writes asked IsImage old new
       ⊎ FailsToRead reads old (names_of asked) store_fault.Device new)
       × (after ≡ before)))
       × Says (Some (codes "Device"))
   pub out_of_memory : status ≡ 3
       → IsOutOfMemory reads (names_of asked) old new × (after ≡ before) × Says (Some (codes "Memory"))
   pub known : (status ≡ 0) ⊎ ((status ≡ 1) ⊎ ((status ≡ 3) ⊎ (status ≡ 4)))
+
+-- what `import` refuses of its files, and standard error says with which fault
+pub record HasRefusedParts {S : Type 0} (reads : Reading S) (asked : Asked) (old new : S) (Says : Saying)
+    : Type 0 where
+  pub files : Texts
+  pub read : ReadsAll reads old (names_of asked) files new
+  pub fault : ImportFault
+  pub not_memory : fault ≢ import_fault.Memory
+  pub refused : imported (parts_of asked files) ≡ Err fault
+  pub said : Says (Some (import_fault_text fault))
+
+-- a file is too long, or what they hold is refused
+abbrev pub IsRefusedImport : {S : Type 0} → Reading S → Asked → (old new : S) → Saying → Type 0
+IsRefusedImport reads asked old new Says =
+    (FailsToRead reads old (names_of asked) store_fault.InputTooLong new × Says (Some (codes "InputTooLong")))
+    ⊎ HasRefusedParts reads asked old new Says
+
+module _ {S O : Type 0} (reads : Reading S) (writes : Writing S) (taken : O → Option (List ℕ))
+    (failures : O → ℕ) (Says : Saying) (asked : Asked) (old new : S) where
+  -- `asm SOURCE IMAGE` writes the image of its source
+  abbrev pub RunsAsm : (before after : O) → ℕ → Type 0
+  RunsAsm = RunsWriting reads writes taken failures Says asked
+      (λ files. IsWritten (inputs_of asked files).source)
+      (IsRefusedRun reads (names_of asked) old new Says (λ files. (report_from asked [] files).IsFault))
+      old new
+
+  -- `import CODE@ADDRESS .. IMAGE` writes that of its files, each at its address
+  abbrev pub RunsImport : (before after : O) → ℕ → Type 0
+  RunsImport = RunsWriting reads writes taken failures Says asked
+      (λ files. IsImported (parts_of asked files)) (IsRefusedImport reads asked old new Says) old new
 
 -- ## `debug SOURCE MACHINE`
 
@@ -239,6 +276,8 @@ module _ {S I O : Type 0} (reads : Reading S) (writes : Writing S) (remaining : 
       after status
   RunsBy command.Asm old new input_old input_new before after status =
       RunsAsm reads writes taken failures Says asked old new before after status × (input_new ≡ input_old)
+  RunsBy command.Import old new input_old input_new before after status =
+      RunsImport reads writes taken failures Says asked old new before after status × (input_new ≡ input_old)
   RunsBy c old new input_old input_new before after status =
       RunsOf reads taken failures Says asked [] old new before after status × (input_new ≡ input_old)
 

@@ -1,18 +1,19 @@
-ghost use Rattle.std.specs.Prelude.{◌≡◌, ◌≢◌, ◌⊎◌, None, Some, codes, true, false};
+ghost use Rattle.std.specs.Prelude.{◌≡◌, ◌≢◌, ◌⊎◌, None, Some, codes, map, true, false};
 ghost use Rattle.command_line.specs.Line.{Asked, asked_in};
 ghost use Rattle.command_line.specs.Rows.{asked_of};
 ghost use Rattle.handlers.specs.FaultText.{TakesOrFails, refusal_line};
 ghost use Rattle.progress.specs.Watched.{inner};
 ghost use Rattle.arcwcet.specs.Announced.{reads_announced, shows_lines, writes_announced};
-ghost use Rattle.arcwcet.specs.Files.{ReadsAll, Texts, inputs_of, names_of};
+ghost use Rattle.arcwcet.specs.Files.{ReadsAll, Texts, inputs_of, names_of, others_in};
 ghost use Rattle.arcwcet.specs.Kept.{inputs_lent};
 ghost use Rattle.arcwcet.specs.Refusals.{Says};
 ghost use Rattle.arcwcet.specs.Reports.{report_of};
-ghost use Rattle.arcwcet.specs.Run.{HasAnswered, RunsAsked, RunsAsm};
+ghost use Rattle.arcwcet.specs.Run.{HasAnswered, RunsAsked, RunsAsm, RunsImport};
 
 use crate::announced::AnnouncedStore;
 use crate::diagnose::{alone_status, answered_status};
 use crate::files::{Store, dialect_of, read_files, read_limited};
+use crate::import::{image_imported, import_status};
 use crate::input::Input;
 use crate::reports::{Job, print};
 use crate::status::{line_status, report_status, store_status, unread_status};
@@ -31,6 +32,7 @@ fn run_report<O: Output, E: Output>(
     out: &mut O,
     err: &mut E,
 ) -> u8
+    requires { (asked_of job.request.now).command ≢ Command.Import }
     ensures ran { let asked = asked_of job.entry.request.now in
         HasAnswered O.taken O.failures (Says E.taken E.failures asked err.old err.new)
         (report_of asked (inputs_lent job.entry.inputs) typed.now) out.old out.new result }
@@ -68,6 +70,41 @@ fn run_asm<S: Store, O: Output, E: Output>(
     }
 }
 
+// What `import` is asked for, and the bytes of its files.
+#[derive(Clone, Copy)]
+struct ImportJob<'b, 'a> {
+    request: &'b Request<'a>,
+    files: &'b [Vec<u8>],
+}
+
+// `import`: writes the image's file, and prints its size.
+fn run_import<S: Store, O: Output, E: Output>(
+    alloc: Global,
+    job: ImportJob<'_, '_>,
+    store: &mut S,
+    out: &mut O,
+    err: &mut E,
+) -> u8
+    ensures ran { let asked = asked_of job.entry.request.now in
+        (old : S) (files : Texts) → ReadsAll S.read_gives old (names_of asked) files store.old
+        → map (λ v. v.items) job.entry.files.now ≡ others_in asked.profile files
+        → RunsImport S.read_gives S.write_gives O.taken O.failures
+        (Says E.taken E.failures asked err.old err.new) asked old store.new out.old out.new result }
+    ensures silent { result ≡ 0 → err.new ≡ err.old }
+{
+    let made = match image_imported(alloc, &job.request.places, job.files) {
+        Ok(made) => made,
+        Err(fault) => return import_status(fault, err),
+    };
+    if let Err(fault) = store.write(job.request.word, &made.bytes) {
+        return store_status(fault, err);
+    }
+    match write_whole(out, made.line.as_bytes()) {
+        Ok(()) => 0,
+        Err(_) => report_status(ReportFault::Device, err),
+    }
+}
+
 // Reads the files of what is asked, in their order, and does it.
 fn obey<S: Store, I: Input, O: Output, E: Output>(
     alloc: Global,
@@ -93,6 +130,13 @@ fn obey<S: Store, I: Input, O: Output, E: Output>(
     };
     match command {
         Command::Asm => run_asm(alloc, job, store, out, err),
+        Command::Import => {
+            let import = ImportJob {
+                request: &asked,
+                files: files.others(),
+            };
+            run_import(alloc, import, store, out, err)
+        }
         Command::Debug => match read_limited(alloc, input) {
             Ok(typed) => run_report(alloc, job, &typed, out, err),
             Err(fault) => store_status(fault, err),

@@ -250,6 +250,13 @@ impl ReadFiles {
         }
     }
 
+    /// The bytes of the files but for a cycle profile's, in their order.
+    pub(crate) fn others(&self) -> &[Vec<u8>]
+        ensures { map (λ v. v.items) result.now ≡ map (λ v. v.items) self.now.others.items }
+    {
+        &self.others
+    }
+
     /// The bytes of the files, of which the sources are written in the dialect.
     pub(crate) fn inputs(&self, dialect: Dialect) -> Inputs<'_>
         ensures { inputs_lent result ≡ inputs_kept dialect self.now }

@@ -8,6 +8,7 @@ mod diagnose;
 mod facts;
 mod fault;
 mod files;
+mod import;
 mod input;
 mod law;
 mod reports;

@@ -1,6 +1,6 @@
 //! The reports that commands print.
 
-ghost use Rattle.std.specs.Prelude.{◌≡◌, drop, map, option_map};
+ghost use Rattle.std.specs.Prelude.{◌≡◌, ◌≢◌, drop, map, option_map};
 ghost use Rattle.outputs.specs.OnTheWay.{Adds};
 ghost use Rattle.handlers.specs.Priced.{Priced};
 ghost use Rattle.handlers.specs.Refusal.{fault_only};
@@ -23,8 +23,8 @@ ghost use Rattle.arcwcet.specs.Facts.{facts_file};
 ghost use Rattle.arcwcet.specs.Kept.{inputs_lent};
 ghost use Rattle.arcwcet.specs.Reports.{IsDrawn, answered, bursts_of, by_facts, extent_of, fiq_asked_in};
 ghost use Rattle.arcwcet.specs.Reports.{fiq_files, fiq_source_in, form_of, justified, priced};
-ghost use Rattle.arcwcet.specs.Reports.{question_in, rate_of};
-ghost use Rattle.arcwcet.specs.Reports.{report_of, trace_end, trace_shows, vectors_report, version_line, version_report};
+ghost use Rattle.arcwcet.specs.Reports.{question_in, rate_of, report_of, trace_end, trace_shows};
+ghost use Rattle.arcwcet.specs.Reports.{vectors_report, version_line, version_report};
 ghost use Rattle.arcwcet.specs.Run.{PrintsReport};
 ghost use Rattle.sources.specs.File.{file_of};
 
@@ -540,6 +540,7 @@ pub(crate) fn print<'b, O: Output>(
     typed: &[u8],
     out: &mut O,
 ) -> Result<bool, Refusal<'b>>
+    requires { (asked_of job.request.now).command ≢ Command.Import }
     ensures { PrintsReport O.taken O.failures
         (report_of (asked_of job.entry.request.now) (inputs_lent job.entry.inputs) typed.now) out.old out.new
         (fault_only result) }
@@ -549,6 +550,7 @@ pub(crate) fn print<'b, O: Output>(
     match job.request.command {
         Command::Version => alone(print_version(out)),
         Command::Asm => answered(alone(asm_report(alloc, source, out))),
+        Command::Import => unreachable!(),
         Command::List => answered(alone(list_report(alloc, source, out))),
         Command::Plain => answered(alone(plain_report(alloc, source.bytes, out))),
         Command::Draft => {

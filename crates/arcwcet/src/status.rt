@@ -58,6 +58,13 @@ pub(crate) fn line_status<E: Output>(fault: CommandLineFault, err: &mut E) -> u8
             let _ = write_whole(err, b"error: the image would be written over its source\n");
             2
         }
+        CommandLineFault::ImportParts => {
+            let _ = write_whole(
+                err,
+                b"error: import needs CODE@ADDRESS .., or one CODE --at ADDRESS, and an IMAGE beside\n",
+            );
+            2
+        }
         CommandLineFault::VisitsOrPeriod => {
             let _ = write_whole(
                 err,

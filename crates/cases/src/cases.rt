@@ -7,7 +7,8 @@
 //! - `stdout`: all that is printed, or `stdout.front`: what it begins with; neither: nothing is printed;
 //! - `stderr`: all of standard error, or `stderr.any`: it is not looked at; neither: there is nothing;
 //! - `status`: the exit status on a line; no such file: 0;
-//! - the image that `asm` writes, byte for byte, and no such file where `asm` refuses: it is kept in memory;
+//! - the image that `asm` or `import` writes, byte for byte, and no such file where it is refused: it is kept in
+//!   memory;
 //! - `note`, if there is more to say: what the case shows. It is not read.
 //!
 //! A new case is a folder and its line in `stdout`, which lists all, so that none goes missing.

@@ -1,12 +1,16 @@
 -- What a line of words asks of the program, by clap's function for a simple command. The commands are our
 -- own.
 use Rattle.std.specs.Prelude.{ℕ, Bool, pos, true, false, not, List, [], ◌∷◌, ◌++◌, Option, Some, None, String}
+use Rattle.std.specs.Prelude.{is_some}
 use Rattle.std.specs.Prelude.{codes, find, fold, is_none, map, option_and_then, ◌==◌}
 use Rattle.std.specs.Prelude.{string_bytes, unwrap_or, if◌then◌else◌, ◌&&◌, ◌||◌}
-use Rattle.std.specs.List.{list_any}
+use Rattle.std.specs.List.{after_first, before_first, list_all, list_any}
 use Rattle.std.specs.declared.alloc.Global.{Global}
 use Rattle.std.specs.Str.{bytes_eq}
 use Rattle.std.specs.Str.Parse.{digits_value, without_leading_plus}
+use Rattle.clap.specs.Lexer.{usize_max}
+use Rattle.clap.specs.declared.builder.range.ValueRange.{ValueRange}
+use Rattle.asm_text.specs.Numbers.{read_number}
 use Rattle.clap.specs.Walk.{Row, Rule, Text, all_of, one_of}
 use Rattle.clap.specs.Simple.{App, new_app, new_rule, on_top, subcommand_of, with_rule, with_subcommand}
 use Rattle.clap.specs.Faults.{fault_of}
@@ -70,6 +74,8 @@ dialect = argument (codes "dialect") form.DialectOption
 abbrev pub usages : List Usage
 usages =
     usage (codes "asm") command.Asm (source ∷ argument (codes "image") form.Word ∷ [])
+    ∷ usage (codes "import") command.Import
+    (argument (codes "at") form.AddressOption ∷ argument (codes "parts") form.Parts ∷ [])
     ∷ usage (codes "list") command.List (source ∷ [])
     ∷ usage (codes "plain") command.Plain (source ∷ [])
     ∷ usage (codes "draft") command.Draft
@@ -145,6 +151,14 @@ in_columns rule = record rule { value_names = 1; parser = Some (parser.Signed (p
 abbrev pub counted : Rule → Rule
 counted rule = record rule { value_names = 1; parser = Some (parser.Signed (pos 1) (pos 1000000)) }
 
+-- an argument takes one word or more, of which none is empty; options may stand between them
+abbrev pub at_least_one : ValueRange
+at_least_one = record { start_inclusive = 1; end_inclusive = usize_max }
+
+abbrev pub in_words : Rule → Rule
+in_words rule =
+    record rule { value_names = 1; range = Some at_least_one; parser = Some parser.NonEmptyString }
+
 abbrev pub rule_by : Form → Text → Rule
 rule_by form.File id = required_rule id
 rule_by form.Word id = required_rule id
@@ -157,6 +171,8 @@ rule_by form.FiqSourceOption id = record (option_rule id) { value_names = 1 }
 rule_by form.FilesOption id = record (option_rule id) { value_names = 1; action = Some Append }
 rule_by form.WordOption id = record (option_rule id) { value_names = 1 }
 rule_by form.DialectOption id = record (option_rule id) { value_names = 1 }
+rule_by form.Parts id = in_words (required_rule id)
+rule_by form.AddressOption id = record (option_rule id) { value_names = 1 }
 rule_by form.VectorCount id = counted (required_rule id)
 rule_by form.NumberOption id = numbered (option_rule id)
 rule_by form.SeedOption id = numbered (record (option_rule id) { required = true })
@@ -199,9 +215,9 @@ arcwcet_command = with_commands arcwcet_top usages
 
 -- a command; whether to print what shows the reason of a refusal, what is being done, the bound of each
 -- destination alone, first starts, and each row of a table; whether of the files of `respond` the first
--- behind the second are FIQ's statement and its source; whether to draw the path alone, and whether to print a
--- page in place of a drawing, and lines of JSON; the dialect of sources, if it is named; the names of files, the cycle profile's apart; a word that names no file to be
--- read; and numbers
+-- behind the second are FIQ's statement and its source; whether to draw the path alone, a page in place of
+-- a drawing, and lines of JSON; the dialect of sources, if it is named; the names of files, but for the
+-- profile's, their addresses of `import`, and its option's; a word that names no file to be read; and numbers
 pub record Asked : Type 0 where
   pub command : Command
   pub why : Bool
@@ -217,6 +233,8 @@ pub record Asked : Type 0 where
   pub dialect : Option Text
   pub profile : Option Text
   pub files : List Text
+  pub places : List (Option ℕ)
+  pub at : Option Text
   pub word : Text
   pub numbers : CommandNumbers
 
@@ -238,6 +256,8 @@ plainly command numbers =
       dialect = None;
       profile = None;
       files = [];
+      places = [];
+      at = None;
       word = [];
       numbers = numbers;
     }
@@ -301,6 +321,50 @@ names_file word = list_any (λ byte. byte == 46 || byte == 47) word
 abbrev pub with_file : Text → Asked → Asked
 with_file name asked = record asked { files = asked.files ++ name ∷ [] }
 
+-- ## What `import` reads
+
+-- `@`
+abbrev pub is_at_sign : ℕ → Bool
+is_at_sign byte = byte == 64
+
+-- the address in a word: the number behind its first `@`
+abbrev pub place_in : Text → Option ℕ
+place_in word = read_number (after_first is_at_sign word)
+
+-- the name of the file in it: what is in front of that; or the word, where it has no address
+abbrev pub name_in : Text → Text
+name_in word = if is_none (place_in word) then word else before_first is_at_sign word
+
+-- the same where an option says the address, and the word is a name
+abbrev pub place_at : Option Text → Text → Option ℕ
+place_at None word = place_in word
+place_at (Some number) word = read_number number
+
+abbrev pub name_at : Option Text → Text → Text
+name_at None word = name_in word
+name_at (Some number) word = word
+
+abbrev pub with_part : Text → Asked → Asked
+with_part word asked =
+    record asked {
+      files = asked.files ++ name_at asked.at word ∷ [];
+      places = asked.places ++ place_at asked.at word ∷ [];
+    }
+
+-- one more of the words of which the last names the image, so that the one before it names a file; no word is
+-- empty
+abbrev pub with_word_after : Text → Text → Asked → Asked
+with_word_after [] word asked = record asked { word = word }
+with_word_after (byte ∷ rest) word asked = record (with_part (byte ∷ rest) asked) { word = word }
+
+-- each file has an address; where an option says it there is one file
+abbrev pub are_placed : Option Text → List (Option ℕ) → Bool
+are_placed at [] = false
+are_placed at (place ∷ []) = is_some place
+are_placed at (place ∷ next ∷ rest) = is_none at && list_all is_some (place ∷ next ∷ rest)
+
+-- ## With the values of arguments
+
 -- with the value of an argument of a form too; numbers are read by their names
 abbrev pub with_value_by : Form → Text → Asked → Asked
 with_value_by form.File name asked = with_file name asked
@@ -312,6 +376,8 @@ with_value_by form.Word word asked = record asked { word = word }
 with_value_by form.WordOption word asked = record asked { word = word }
 with_value_by form.FileOrWord value asked =
     if names_file value then with_file value asked else record asked { word = value }
+with_value_by form.Parts word asked = with_word_after asked.word word asked
+with_value_by form.AddressOption number asked = record asked { at = Some number }
 with_value_by form.ProfileOption name asked = record asked { profile = Some name }
 with_value_by form.DialectOption name asked = record asked { dialect = Some name }
 with_value_by form.Why value asked = record asked { why = bytes_eq value (codes "true") }
@@ -372,11 +438,18 @@ are_fiq_options asked =
     && (is_none asked.numbers.bursts && is_none asked.numbers.burst_every)
     else not asked.fiq_source && (is_none asked.numbers.every && is_none asked.numbers.waited)
 
--- `asm` writes no image over a file that it reads, `visits` has either a number of visits or a period,
+-- the image of `import` is written over none of its files, and each has an address
+abbrev pub is_import : Asked → Bool
+is_import asked =
+    not (list_any (λ name. bytes_eq name asked.word) asked.files) && are_placed asked.at asked.places
+
+-- `asm` and `import` write no image over a file that they read, the latter has an address for each,
+-- `visits` has either a number of visits or a period,
 -- `respond` has all or nothing of FIQ, and beside the certificate of a verdict neither a number nor `--each`
 -- nor `--first` nor `--all` is given, which would have no effect
 abbrev pub is_allowed_of : Command → Asked → Bool
 is_allowed_of command.Asm asked = not (list_any (λ name. bytes_eq name asked.word) asked.files)
+is_allowed_of command.Import asked = is_import asked
 is_allowed_of command.Visits asked = is_rate asked.numbers
 is_allowed_of command.Respond asked = are_fiq_options asked
 is_allowed_of command.Verdict asked =

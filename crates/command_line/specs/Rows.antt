@@ -30,6 +30,8 @@ asked_of q =
       dialect = option_map (λ s. s.now) q.dialect;
       profile = option_map (λ s. s.now) q.profile;
       files = map (λ s. s.now) q.files.items;
+      places = q.places.items;
+      at = option_map (λ s. s.now) q.at;
       word = q.word.now;
       numbers = q.numbers;
     }

@@ -27,6 +27,10 @@ pub(crate) enum Form {
     FilesOption,
     /// A word that names no file to be read, by an option.
     WordOption,
+    /// In their places, files of code with their addresses, and last a word that names no file to be read.
+    Parts,
+    /// The address of one such file, by an option.
+    AddressOption,
     /// How many vectors are printed, from 1 to 1,000,000, in its place.
     VectorCount,
     /// A whole number of 32 bits, by an option.
@@ -146,6 +150,20 @@ const STATEMENT: ArgumentRow = ArgumentRow {
     id: "statement",
     form: Form::File,
     help: "Statement on the handler",
+    instead: None,
+};
+
+const AT: ArgumentRow = ArgumentRow {
+    id: "at",
+    form: Form::AddressOption,
+    help: "The address of the first word of CODE: decimal, or hexadecimal after 0x",
+    instead: None,
+};
+
+const PARTS: ArgumentRow = ArgumentRow {
+    id: "parts",
+    form: Form::Parts,
+    help: "Files of code, each with the address of its first word, and last the image, to be written",
     instead: None,
 };
 
@@ -402,12 +420,18 @@ const SEED: ArgumentRow = ArgumentRow {
 };
 
 /// The commands, in the order of the help.
-pub(crate) const COMMANDS: [CommandRow; 16] = [
+pub(crate) const COMMANDS: [CommandRow; 17] = [
     CommandRow {
         name: "asm",
         command: Command::Asm,
         summary: "Write a source's image, and print its size",
         arguments: &[SOURCE, IMAGE],
+    },
+    CommandRow {
+        name: "import",
+        command: Command::Import,
+        summary: "Write the image of code that another tool has made, and print its size",
+        arguments: &[AT, PARTS],
     },
     CommandRow {
         name: "list",

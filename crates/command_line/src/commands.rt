@@ -9,6 +9,7 @@ ghost use Rattle.command_line.specs.Rows.{argument_of, usage_of};
 use crate::command_rows::{
     ArgumentRow, COMMANDS, CommandRow, DIALECT, Form, PROGRESS, VERSION, WHY,
 };
+use clap::builder::ValueParser;
 use clap::{Arg, ArgAction, Command, value_parser};
 use std::alloc::{AllocError, Global};
 
@@ -26,6 +27,12 @@ fn argument<'a>(alloc: Global, row: &ArgumentRow) -> Arg<'a>
             .long(row.id)
             .value_name("FILE")
             .action(ArgAction::Append),
+        Form::Parts => arg
+            .required(true)
+            .value_name("CODE@ADDRESS")
+            .value_parser(ValueParser::NonEmptyString)
+            .num_args(1..),
+        Form::AddressOption => arg.long(row.id).value_name("ADDRESS"),
         Form::WordOption => arg.long(row.id).value_name("LABEL"),
         Form::DialectOption => arg.long(row.id).value_name("DIALECT"),
         Form::VectorCount => arg

@@ -7,6 +7,9 @@ pub enum Command {
     Version,
     /// The image of a source, to be written to a file of the name [`Request::word`].
     Asm,
+    /// The image of files of code, each at its address of [`Request::places`], to be written to a file of the
+    /// name [`Request::word`].
+    Import,
     /// The addresses, words and lines of a source, or the words of an image.
     List,
     /// A source in ObjAsm's dialect as one in our grammar.
@@ -24,8 +27,8 @@ pub enum Command {
     Trace,
     /// The same of the run that ends before the instruction at [`Request::word`], a label or an address.
     TraceTo,
-    /// So many test vectors as [`CommandNumbers::vectors`] says, by the seed [`CommandNumbers::seed`]. It reads no
-    /// file.
+    /// So many test vectors as [`CommandNumbers::vectors`] says, by the seed [`CommandNumbers::seed`]. It
+    /// reads no file.
     Vectors,
     /// A session of the debugger on that machine, by the commands on standard input.
     Debug,
@@ -122,6 +125,10 @@ pub struct Request<'a> {
     pub profile: Option<&'a str>,
     /// The names of the other files to be read, in their order.
     pub files: Vec<&'a str>,
+    /// Of `import`, the address of each of these files, if it has one.
+    pub places: Vec<Option<u32>>,
+    /// What `--at` of `import` says.
+    pub at: Option<&'a str>,
     /// A word that names no file to be read; empty where the command has none.
     pub word: &'a str,
     pub numbers: CommandNumbers,
@@ -138,6 +145,9 @@ pub enum CommandLineFault {
     UnknownDialect,
     /// `asm` would write the image over its source.
     SourceReplaced,
+    /// `import` is given a file without an address, or `--at` with several files, or would write the image
+    /// over a file that it reads.
+    ImportParts,
     /// `visits` is given neither a number of visits nor a period, or both, or a number and FIQ's wait.
     VisitsOrPeriod,
     /// `respond` is given FIQ's statement without a period or beside bursts, or another option of FIQ's

@@ -1,13 +1,14 @@
 ghost use Rattle.std.specs.Prelude.{◌≡◌, ◌≢◌, IfErr, IfOk, OnOk, Some, None, map, option_map};
-ghost use Rattle.std.specs.Prelude.{find, option_and_then, string_bytes};
-ghost use Rattle.std.specs.List.{list_any};
+ghost use Rattle.std.specs.Prelude.{find, is_some, option_and_then, string_bytes};
+ghost use Rattle.std.specs.List.{list_all, list_any};
 ghost use Rattle.std.specs.Str.{bytes_eq};
 ghost use Rattle.clap.specs.Matches.{found_of};
 ghost use Rattle.clap.specs.Walk.{rows_of};
 ghost use Rattle.clap.specs.Words.{kind_of, subcommand_rows_of};
 ghost use Rattle.command_line.specs.Line.{are_fiq_options, asked_as, asked_by, asked_in, asks_version};
 ghost use Rattle.command_line.specs.Line.{command_by, is_allowed, is_allowed_of, is_known};
-ghost use Rattle.command_line.specs.Line.{is_one, is_rate};
+ghost use Rattle.command_line.specs.Line.{are_placed, is_import, is_one, is_rate};
+ghost use Rattle.command_line.specs.Line.{name_at, name_in, place_at, place_in};
 ghost use Rattle.command_line.specs.Line.{names_file, no_numbers, number_at, numbers_in, plainly};
 ghost use Rattle.command_line.specs.Line.{ticks_at, with_argument, with_value, with_value_by};
 ghost use Rattle.command_line.specs.Rows.{argument_of, asked_of, usage_of};
@@ -15,6 +16,7 @@ ghost use Rattle.command_line.specs.Rows.{argument_of, asked_of, usage_of};
 use crate::command_rows::{ArgumentRow, COMMANDS, CommandRow, DIALECT, Form, PROGRESS, WHY};
 use crate::commands::arcwcet;
 use crate::line::{Command, CommandLineFault, CommandNumbers, Request};
+use asm_text::read_number;
 use clap::error::ErrorKind;
 use clap::{ArgMatches, Error};
 use std::alloc::{AllocError, Global};
@@ -111,6 +113,47 @@ fn add_fiq_source<'a>(request: &mut Request<'a>, name: &'a str) -> Result<(), Al
     Ok(())
 }
 
+// The name of the file in a word and its address: in front of the first `@` and behind it; or all of it.
+fn name_and_place(word: &str) -> (&str, Option<u32>)
+    ensures name { result.0.now ≡ name_in word.now }
+    ensures place { result.1 ≡ place_in word.now }
+{
+    match word.split_once('@') {
+        Some((name, behind)) => match read_number(behind.as_bytes()) {
+            Some(place) => (name, Some(place)),
+            None => (word, None),
+        },
+        None => (word, None),
+    }
+}
+
+// The same, where an option may say the address.
+fn part_at<'a>(at: Option<&str>, word: &'a str) -> (&'a str, Option<u32>)
+    ensures name { result.0.now ≡ name_at (option_map (λ s. s.now) at.entry) word.now }
+    ensures place { result.1 ≡ place_at (option_map (λ s. s.now) at.entry) word.now }
+{
+    match at {
+        Some(number) => (word, read_number(number.as_bytes())),
+        None => name_and_place(word),
+    }
+}
+
+// Adds a word that may be the last one; the one before it names a file, as it was not.
+fn add_part<'a>(request: &mut Request<'a>, value: &'a str) -> Result<(), AllocError>
+    ensures { OnOk result (asked_of request.new
+        ≡ with_value_by Form.Parts value.now (asked_of request.old)) }
+{
+    let before = request.word;
+    request.word = value;
+    if before.is_empty() {
+        return Ok(());
+    }
+    let (name, place) = part_at(request.at, before);
+    request.files.push(name)?;
+    request.places.push(place)?;
+    Ok(())
+}
+
 // Adds to what is asked the value of an argument.
 fn add_value<'a>(
     request: &mut Request<'a>,
@@ -127,6 +170,8 @@ fn add_value<'a>(
         Form::FiqSourceOption => add_fiq_source(request, value)?,
         Form::FileOrWord => add_file_or_word(request, value)?,
         Form::Word | Form::WordOption => request.word = value,
+        Form::Parts => add_part(request, value)?,
+        Form::AddressOption => request.at = Some(value),
         Form::ProfileOption => request.profile = Some(value),
         Form::DialectOption => request.dialect = Some(value),
         Form::Why => request.why = value == "true",
@@ -189,6 +234,8 @@ fn asked<'a>(
         dialect: None,
         profile: None,
         files: Vec::new(alloc),
+        places: Vec::new(alloc),
+        at: None,
         word: "",
         numbers: numbers_in(values),
     };
@@ -240,6 +287,32 @@ fn are_fiq_options(request: &Request<'_>) -> bool
     !request.fiq_source && numbers.every.is_none() && numbers.waited.is_none()
 }
 
+// Whether each file has an address.
+fn all_placed(places: &[Option<u32>]) -> bool
+    ensures { result ≡ list_all (λ place. is_some place) places.now }
+{
+    places.iter().all(|place| place.is_some())
+}
+
+// The same, and where an option says it there is but one file.
+fn are_placed(at: Option<&str>, places: &[Option<u32>]) -> bool
+    ensures { result ≡ are_placed (option_map (λ s. s.now) at.entry) places.now }
+{
+    match places {
+        [] => false,
+        [place] => place.is_some(),
+        _ => at.is_none() & all_placed(places),
+    }
+}
+
+// Whether an image is no file that is read, and its parts have addresses.
+fn is_import(request: &Request<'_>) -> bool
+    ensures { result ≡ is_import (asked_of request.now) }
+{
+    let over = is_among(&request.files, request.word);
+    !over & are_placed(request.at, &request.places)
+}
+
 // Whether a dialect is known, if one is named.
 fn is_known(dialect: Option<&str>) -> bool
     ensures { result ≡ is_known (option_map (λ s. s.now) dialect.entry) }
@@ -250,9 +323,9 @@ fn is_known(dialect: Option<&str>) -> bool
     }
 }
 
-// Whether what is asked may be: a dialect that is named is known, the image of `asm` is no file that it reads,
-// `visits` has a number or a period, `respond` has all or nothing of FIQ, and no option that has no effect
-// stands beside the certificate of a verdict.
+// Whether what is asked may be: a dialect that is named is known, the image of `asm` or `import` is no file
+// that it reads, and the latter have addresses, `visits` has a number or a period, `respond` has all or
+// nothing of FIQ, and no option that has no effect stands beside the certificate of a verdict.
 fn is_allowed(request: &Request<'_>) -> bool
     ensures { result ≡ is_allowed (asked_of request.now) }
 {
@@ -264,6 +337,7 @@ fn is_allowed_of(request: &Request<'_>) -> bool
 {
     match request.command {
         Command::Asm => !is_among(&request.files, request.word),
+        Command::Import => is_import(request),
         Command::Visits => is_rate(request.numbers),
         Command::Respond => are_fiq_options(request),
         Command::Verdict => {
@@ -354,6 +428,7 @@ fn unasked(matches: &ArgMatches<'_>) -> CommandLineFault {
     match matches.subcommand() {
         Some((_, values)) if names_another(values) => CommandLineFault::UnknownDialect,
         Some(("explain", _)) => CommandLineFault::OptionBesideCertificate,
+        Some(("import", _)) => CommandLineFault::ImportParts,
         Some(("visits", _)) => CommandLineFault::VisitsOrPeriod,
         Some(("respond", _)) => CommandLineFault::FiqOptions,
         _ => CommandLineFault::SourceReplaced,
@@ -391,6 +466,8 @@ fn version<'a>(alloc: Global) -> Request<'a>
         dialect: None,
         profile: None,
         files: Vec::new(alloc),
+        places: Vec::new(alloc),
+        at: None,
         word: "",
         numbers: CommandNumbers {
             edge: 0,
@@ -416,7 +493,8 @@ fn version<'a>(alloc: Global) -> Request<'a>
 /// # Errors
 ///
 /// Where the words ask for nothing: `Usage` with the command-line crate's own refusal, or its help;
-/// `SourceReplaced` where `asm` would write the image over its source; `VisitsOrPeriod` where `visits` has
+/// `SourceReplaced` where `asm` would write the image over its source; `ImportParts` where a file of `import`
+/// has no address, or `--at` has several, or it would write over one; `VisitsOrPeriod` where `visits` has
 /// neither a number of visits nor a period, or both, or FIQ's wait beside a number; `FiqOptions` where
 /// `respond` has FIQ's statement without a period or beside bursts, or else an option of FIQ's;
 /// `OptionBesideCertificate` where `explain` has a certificate and an option for explanations. `Memory`: an

@@ -105,6 +105,7 @@ pub(crate) const CALLS: &[(&str, Call)] = &[
         Call::Pure(Pure::MachineFile(MachineFileCall::Inputs)),
     ),
     ("read_image", Call::Pure(Pure::Image(ImageCall::Read))),
+    ("import_parts", Call::Pure(Pure::Image(ImageCall::Import))),
     ("write_image", Call::Pure(Pure::Image(ImageCall::Write))),
     ("Image::listed", Call::Pure(Pure::Image(ImageCall::List))),
     ("page_plan", Call::Pure(Pure::Image(ImageCall::Plan))),
@@ -215,6 +216,7 @@ pub(crate) const CALLS: &[(&str, Call)] = &[
     ("justify_report", Call::Report(Report::Justify, ROOM)),
     ("program-bound", Call::Program(Line::Bound)),
     ("program-asm", Call::Program(Line::Asm)),
+    ("program-import", Call::Program(Line::Import)),
     ("program-usage", Call::Program(Line::Usage)),
 ];
 

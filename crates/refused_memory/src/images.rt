@@ -5,6 +5,7 @@ use arcwcet::ReportFault;
 use arm2_exec::Machine;
 use assembler::assemble;
 use bus_ticks::Profile;
+use imports::{ImportFault, Part, import_parts};
 use loader::{
     Image, ImageFault, LabelFault, Labels, LoadFault, PagePlan, PlacedPage, ReadFault, load,
     page_plan, read_image, write_image,
@@ -13,14 +14,18 @@ use memc::PageSize;
 use samples::countdown::{IMAGE, SOURCE};
 use std::alloc::Global;
 
+/// The words of the countdown, as another tool writes them.
+pub(crate) const CODE: &[u8] = b"\x03\x00\xA0\xE3\x01\x00\x50\xE2\xFD\xFF\xFF\x1A\x04\xF0\x5E\xE2";
+
 // Words in RAM, by a logical and a physical address, and in ROM.
 const SCATTERED: &[u8] =
     b" ORG &8000\n DCD 1\n ORG &2000010\n DCD 2\n ORG &3800000\n DCD &12345678\n";
 
-/// A call that reads, writes, lists or plans an image, and changes none.
+/// A call that reads, imports, writes, lists or plans an image, and changes none.
 #[derive(Clone, Copy)]
 pub(crate) enum ImageCall {
     Read,
+    Import,
     Write,
     List,
     Plan,
@@ -48,6 +53,18 @@ fn read(alloc: Global) -> Answer {
     match read_image(alloc, &IMAGE) {
         Ok(image) => Answer::of_value(is_countdown(&image), image),
         Err(ReadFault::Memory) => Answer::Refused,
+        Err(_) => Answer::Wrong,
+    }
+}
+
+fn imported(alloc: Global) -> Answer {
+    let part = Part {
+        address: 0x8000,
+        bytes: CODE,
+    };
+    match import_parts(alloc, &[part]) {
+        Ok(image) => Answer::of_value(is_countdown(&image), image),
+        Err(ImportFault::Memory) => Answer::Refused,
         Err(_) => Answer::Wrong,
     }
 }
@@ -102,6 +119,7 @@ impl ImageCall {
     pub(crate) fn made(self, alloc: Global) -> Result<Answer, ReportFault> {
         match self {
             ImageCall::Read => Ok(read(alloc)),
+            ImageCall::Import => Ok(imported(alloc)),
             ImageCall::Write => written(alloc),
             ImageCall::List => listed(alloc),
             ImageCall::Plan => planned(alloc),

@@ -1,3 +1,4 @@
+use crate::images::CODE;
 use crate::reports::ROOM;
 use crate::trial::{Answer, Trial};
 use arcwcet::{MemoryOutput, ReportFault, Store, StoreFault, StreamInput, program, read_limited};
@@ -12,6 +13,7 @@ const NO_MEMORY: u8 = 3;
 pub(crate) enum Line {
     Bound,
     Asm,
+    Import,
     /// A command that there is not.
     Usage,
 }
@@ -22,6 +24,7 @@ impl Line {
         match self {
             Line::Bound => ["bound", "nested.s", "nested.toml"],
             Line::Asm => ["asm", "countdown.s", "image"],
+            Line::Import => ["import", "countdown@0x8000", "image"],
             Line::Usage => ["frob", "countdown.s", "image"],
         }
     }
@@ -30,7 +33,7 @@ impl Line {
     fn answer(self) -> (u8, &'static [u8]) {
         match self {
             Line::Bound => (0, nested_countdown::CERTIFICATE),
-            Line::Asm => (0, b"words 4 segments 1\n"),
+            Line::Asm | Line::Import => (0, b"words 4 segments 1\n"),
             Line::Usage => (2, b""),
         }
     }
@@ -38,7 +41,7 @@ impl Line {
     // Whether the image's file was written, and as it has to be.
     fn written(self) -> Option<bool> {
         match self {
-            Line::Asm => Some(true),
+            Line::Asm | Line::Import => Some(true),
             Line::Bound | Line::Usage => None,
         }
     }
@@ -54,6 +57,7 @@ impl Store for Files {
     fn read(&mut self, alloc: Global, name: &str) -> Result<Vec<u8>, StoreFault> {
         let bytes = match name {
             "countdown.s" => countdown::SOURCE,
+            "countdown" => CODE,
             "nested.s" => nested_countdown::SOURCE,
             "nested.toml" => nested_countdown::STATEMENT,
             _ => return Err(StoreFault::Device),

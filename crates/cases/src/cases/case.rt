@@ -58,6 +58,11 @@ fn number(line: &[u8]) -> Option<u8> {
     str::from_utf8(line).ok()?.trim_end().parse().ok()
 }
 
+// Whether a command writes an image.
+fn writes_image(command: &str) -> bool {
+    command == "asm" || command == "import"
+}
+
 // The files of a case's folder.
 #[derive(Drop)]
 struct Folder<'a, R: Files> {
@@ -112,10 +117,10 @@ impl<R: Files + AllocGlobal> Folder<'_, R> {
         }
     }
 
-    // The image that `asm`, its options, `SOURCE IMAGE` is to write.
+    // The image that `asm` or `import`, with their options and files, is to write: its name is the last word.
     fn image(&self, words: &[String]) -> Result<Option<Vec<u8>>, CaseFault> {
         match words {
-            [_, command, .., _, image] if command.as_str() == "asm" => self.read_if_any(
+            [_, command, .., _, image] if writes_image(command.as_str()) => self.read_if_any(
                 image.as_str(),
             ),
             _ => Ok(None),

@@ -6,9 +6,22 @@ use Rattle.arcwcet.specs.Files.{dialect_of}
 use Rattle.arcwcet.specs.Kept.{inputs_kept, inputs_lent, kept_of}
 use Rattle.sources.specs.declared.file.Dialect.{Dialect}
 use Rattle.arcwcet.specs.Refusals.{Says, store_fault_name}
-use Rattle.arcwcet.proofs.FileLemmas.{bytes_kept, inputs_split}
+use Rattle.arcwcet.proofs.FileLemmas.{bytes_kept, inputs_split, others_split}
 use Rattle.arcwcet.proofs.RunLemmas.{RunsAs, by_form, ran_of, says_line}
 use Rattle.arcwcet.proofs.commands.obey.Goals as goal
+
+pub returns-in-Import-clause-done : goal.returns-in-Import-clause-done
+returns-in-Import-clause-done g c =
+    let asked = asked_of c.args.asked in
+    let files = c.in-Ok.files in
+    let ran = c.run_import in
+    let says = Says g.E.Output.taken g.E.Output.failures asked c.args.err.now ran.new.err in
+    subst (λ (k : Command). RunsAs g.S.Store.read_gives g.S.Store.write_gives g.I.Input.remaining g.I.Input.failures g.O.Output.taken g.O.Output.failures says asked c.args.store.now ran.new.store c.args.input.now c.args.input.now c.args.out.now ran.new.out ran.result k)
+    (sym c.in-Import.is) (
+      ran.ensures.ran c.args.store.now (kept_of files) c.in-Ok.ensures.read
+          (c.others.ensures ∙ others_split (λ n. n.now) (λ v. v.items) c.args.asked.profile files.profile (bytes_kept files.others.items) c.in-Ok.ensures.named),
+      refl,
+    )
 
 pub returns-in-Ok-read_limited-clause-done : goal.returns-in-Ok-read_limited-clause-done
 returns-in-Ok-read_limited-clause-done g c =
@@ -63,7 +76,7 @@ returns g c =
     ∙ inputs_split (λ n. n.now) (λ v. v.items) c.args.asked.profile files.profile (bytes_kept files.others.items) c.in-Ok.ensures.named (dialect_of asked.dialect) in
     record {
       done = by_form g.S.Store.read_gives g.S.Store.write_gives g.I.Input.remaining g.I.Input.failures g.O.Output.taken g.O.Output.failures says asked c.args.store.now c.read_files.new.store c.args.input.now c.args.input.now c.args.out.now ran.new.out ran.result asked.command
-          (λ e. absurd (c.in_default.not-Asm e)) (λ e. absurd (c.in_default.not-Debug e))
+          (λ e. absurd (c.in_default.not-Asm e)) (λ e. absurd (c.in_default.not-Import e)) (λ e. absurd (c.in_default.not-Debug e))
           (ran_of g.S.Store.read_gives g.O.Output.taken g.O.Output.failures says asked [] c.args.store.now c.read_files.new.store c.args.out.now ran.new.out (kept_of files) (inputs_lent c.inputs.result) split c.in-Ok.ensures.read ran.result ran.ensures.ran, refl);
       silent = ran.ensures.silent;
     }

@@ -1,0 +1,115 @@
+//! `import`: the image of code that another tool has made.
+
+ghost use Rattle.std.specs.Prelude.{◌≡◌, ◌⊎◌, Err, IfErr, IfOk, drop, map, string_bytes};
+ghost use Rattle.handlers.specs.FaultText.{TakesOrFails, refusal_line};
+ghost use Rattle.imports.specs.Imported.{imported, part_of};
+ghost use Rattle.source_reports.specs.Assembly.{size_text};
+ghost use Rattle.arcwcet.specs.Import.{IsImported, first_place, import_fault_name, import_fault_place};
+ghost use Rattle.arcwcet.specs.Import.{import_fault_text, import_status, placed};
+
+use handlers::{FaultPlace, print_refusal_line};
+use image::{Image, write_image};
+use imports::{ImportFault, Part, import_parts};
+use outputs::Output;
+use source_reports::Written;
+use std::alloc::{AllocError, Global};
+
+// The first of some addresses, and the others.
+fn first_place(places: &[Option<u32>]) -> (u32, &[Option<u32>])
+    ensures first { result.0 ≡ first_place places.now }
+    ensures others { result.1.now ≡ drop 1 places.now }
+{
+    match places {
+        [place, others @ ..] => (place.unwrap_or(0), others),
+        [] => (0, &[]),
+    }
+}
+
+// Files, each at its address.
+fn placed<'a>(
+    alloc: Global,
+    places: &[Option<u32>],
+    files: &'a [Vec<u8>],
+) -> Result<Vec<Part<'a>>, AllocError>
+    ensures { IfOk result
+        (λ parts. map part_of parts.items ≡ placed places.now (map (λ v. v.items) files.now)) }
+{
+    let mut parts = Vec::new(alloc);
+    let mut left = places;
+    for file in files {
+        let (address, others) = first_place(left);
+        parts.push(Part {
+            address,
+            bytes: file,
+        })?;
+        left = others;
+    }
+    Ok(parts)
+}
+
+// The line that says an image's size.
+fn size_line(alloc: Global, image: &Image) -> Result<String, AllocError>
+    ensures { IfOk result (λ line. string_bytes line ≡ size_text image.now) }
+{
+    let words = image.words();
+    let segments = image.segments();
+    format!(in alloc; "words {words} segments {segments}\n")
+}
+
+/// The file and the report of the image of files, each at its address.
+pub(crate) fn image_imported(
+    alloc: Global,
+    places: &[Option<u32>],
+    files: &[Vec<u8>],
+) -> Result<Written, ImportFault>
+    ensures is { IfOk result
+        (λ w. IsImported (placed places.now (map (λ v. v.items) files.now)) w.bytes.items
+        (string_bytes w.line)) }
+    ensures fault { IfErr result (λ fault. (fault ≡ ImportFault.Memory)
+        ⊎ (imported (placed places.now (map (λ v. v.items) files.now)) ≡ Err fault)) }
+{
+    let parts = placed(alloc, places, files)?;
+    let image = import_parts(alloc, &parts)?;
+    let Ok(bytes) = write_image(alloc, &image) else {
+        return Err(ImportFault::Memory);
+    };
+    let line = size_line(alloc, &image)?;
+    Ok(Written { bytes, line })
+}
+
+fn fault_name(fault: ImportFault) -> &'static [u8]
+    ensures { result.now ≡ import_fault_name fault }
+{
+    match fault {
+        ImportFault::Memory => b"Memory",
+        ImportFault::TooManyParts => b"TooManyParts",
+        ImportFault::Misaligned(_) => b"Misaligned",
+        ImportFault::OutOfRange(_) => b"OutOfRange",
+        ImportFault::Overlap(_) => b"Overlap",
+        ImportFault::TooLong(_) => b"TooLong",
+    }
+}
+
+fn fault_place(fault: ImportFault) -> FaultPlace
+    ensures { result ≡ import_fault_place fault }
+{
+    match fault {
+        ImportFault::Memory | ImportFault::TooManyParts => FaultPlace::Nowhere,
+        ImportFault::Misaligned(address) => FaultPlace::Address(address),
+        ImportFault::OutOfRange(address) => FaultPlace::Address(address),
+        ImportFault::Overlap(address) => FaultPlace::Address(address),
+        ImportFault::TooLong(address) => FaultPlace::Address(address),
+    }
+}
+
+/// Prints why there is no image, and answers the exit status.
+pub(crate) fn import_status<E: Output>(fault: ImportFault, err: &mut E) -> u8
+    ensures status { result ≡ import_status fault }
+    ensures says { TakesOrFails E.taken E.failures err.old err.new (refusal_line (import_fault_text fault)) }
+{
+    print_refusal_line(fault_name(fault), fault_place(fault), err);
+    match fault {
+        ImportFault::Memory => 3,
+        _ => 1,
+    }
+}
