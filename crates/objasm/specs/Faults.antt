@@ -6,7 +6,7 @@ use Rattle.objasm.specs.declared.faults.LineFault.TheVariants.{NameMissing, BadE
 use Rattle.objasm.specs.declared.faults.LineFault.TheVariants.{NoValue, BadRegister, BadOperand, NotANumber}
 use Rattle.objasm.specs.declared.faults.LineFault.TheVariants.{NotLogical}
 use Rattle.objasm.specs.declared.faults.LineFault.TheVariants.{AssertionFailed, ConditionMissing, ElseTwice}
-use Rattle.objasm.specs.declared.faults.LineFault.TheVariants.{ConditionOpen, ConditionTooDeep}
+use Rattle.objasm.specs.declared.faults.LineFault.TheVariants.{ConditionOpen, ConditionTooDeep, Scattered}
 
 abbrev pub name : LineFault → List ℕ
 name Memory = codes "Memory"
@@ -26,3 +26,4 @@ name ConditionMissing = codes "ConditionMissing"
 name ElseTwice = codes "ElseTwice"
 name ConditionOpen = codes "ConditionOpen"
 name ConditionTooDeep = codes "ConditionTooDeep"
+name Scattered = codes "Scattered"

@@ -61,6 +61,9 @@ pub enum LineFault {
     /// A condition inside 64 others.
     #[error("ConditionTooDeep")]
     ConditionTooDeep,
+    /// What stands for a line does not lie side by side, as an ORG is among it.
+    #[error("Scattered")]
+    Scattered,
 }
 
 impl From<AllocError> for LineFault {
@@ -102,6 +105,7 @@ impl LineFault {
             LineFault::ElseTwice => b"ElseTwice",
             LineFault::ConditionOpen => b"ConditionOpen",
             LineFault::ConditionTooDeep => b"ConditionTooDeep",
+            LineFault::Scattered => b"Scattered",
         }
     }
 }

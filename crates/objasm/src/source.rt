@@ -22,7 +22,7 @@ use crate::names::Names;
 use crate::plain_lines::put_body;
 use crate::token::{Token, tokens};
 use asm_text::{first_line, is_blank};
-use std::alloc::{AllocError, Global};
+use std::alloc::{AllocError, AllocFailed, Global};
 use thiserror::Error;
 
 /// A text of the dialect in our grammar.
@@ -67,6 +67,14 @@ impl From<AllocError> for DialectFault {
     ghost from_gives = { λ _ fault. fault ≡ Memory };
 
     fn from(_refused: AllocError) -> DialectFault {
+        DialectFault::Memory
+    }
+}
+
+impl<T: Drop> From<AllocFailed<T>> for DialectFault {
+    ghost from_gives = { λ _ fault. fault ≡ Memory };
+
+    fn from(_refused: AllocFailed<T>) -> DialectFault {
         DialectFault::Memory
     }
 }
