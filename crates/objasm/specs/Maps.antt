@@ -1,4 +1,5 @@
--- Storage maps: names for places in memory that follow one another from a counter on.
+-- Storage maps: names for places in memory that follow one another from a counter on (our reading of ObjAsm's
+-- manual, storage maps; docs/DECISIONS.md).
 use Rattle.std.specs.Prelude.{◌==◌, ℕ, List, [], ◌∷◌, codes, map, Option, Some, None, option_map, Result, Ok}
 use Rattle.std.specs.Prelude.{Err}
 use Rattle.std.specs.Prelude.{if◌then◌else◌}

@@ -8,9 +8,9 @@ ghost use Rattle.objasm.specs.Conditions.{all_closed, open_in};
 ghost use Rattle.objasm.specs.Names.{Meanings, Told, meanings_of};
 ghost use Rattle.objasm.specs.Parts.{part_of, parts};
 ghost use Rattle.objasm.specs.Source.{FaultedAt, body, body_len, ends, fault_at, flow_in, is_end};
-ghost use Rattle.objasm.specs.Source.{line_settled, line_shown, meanings_in, plain_body, plain_lines, plain_of, set_if};
-ghost use Rattle.objasm.specs.Source.{settings, shown_behind, shown_line, stripped, taken_line, translated};
-ghost use Rattle.objasm.specs.Source.{trimmed};
+ghost use Rattle.objasm.specs.Source.{line_settled, line_shown, meanings_in, plain_body, plain_lines, plain_of};
+ghost use Rattle.objasm.specs.Source.{set_if, settings, shown_behind, shown_line, stripped, taken_line};
+ghost use Rattle.objasm.specs.Source.{translated, trimmed};
 ghost use Rattle.objasm.specs.declared.source.DialectFault.TheVariants.{Memory};
 
 use crate::conditions::{

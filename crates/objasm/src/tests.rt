@@ -17,15 +17,19 @@ const TEXTS: [(&[u8], &[u8]); 23] = [
     ),
     (
         b"base RN 12\nof EQU 8\nl LDR base,[base,#-of]!\n STMFD SP!,{base,R0-base,pc}^\n",
-        b" ; base RN 12\n ; of EQU 8\nl LDR R12,[R12,#-8]! ; l LDR base,[base,#-of]!\n STMFD SP!,{R12,R0-R12,pc}^ ;  STMFD SP!,{base,R0-base,pc}^\n",
+        b" ; base RN 12\n ; of EQU 8\nl LDR R12,[R12,#-8]! ; l LDR base,[base,#-of]!\n \
+          STMFD SP!,{R12,R0-R12,pc}^ ;  STMFD SP!,{base,R0-base,pc}^\n",
     ),
     (
         b" MOVHS R0,R1,LSL #2+1\n blo lab ; b\n BLHS x\n CMPLOP R1,#':'\n BICHSS R1,R1,#'A'",
-        b" MOVCS R0,R1,LSL #3 ;  MOVHS R0,R1,LSL #2+1\n bcc lab ;  blo lab ; b\n BLCS x ;  BLHS x\n CMPCCP R1,#58 ;  CMPLOP R1,#':'\n BICCSS R1,R1,#65 ;  BICHSS R1,R1,#'A'\n",
+        b" MOVCS R0,R1,LSL #3 ;  MOVHS R0,R1,LSL #2+1\n bcc lab ;  blo lab ; b\n BLCS x ;  BLHS x\n \
+          CMPCCP R1,#58 ;  CMPLOP R1,#':'\n BICCSS R1,R1,#65 ;  BICHSS R1,R1,#'A'\n",
     ),
     (
         b" ORG &8000+4*2\n SWI 1<<17\n DCD (2+3)*4, 10/3, 10:MOD:3, -2-3, :NOT:0, 2+3:SHL:1, 1:OR:6:AND:4\n",
-        b" ORG 32776 ;  ORG &8000+4*2\n SWI 131072 ;  SWI 1<<17\n DCD 20, 3, 1, 4294967291, 4294967295, 8, 4 ;  DCD (2+3)*4, 10/3, 10:MOD:3, -2-3, :NOT:0, 2+3:SHL:1, 1:OR:6:AND:4\n",
+        b" ORG 32776 ;  ORG &8000+4*2\n SWI 131072 ;  SWI 1<<17\n \
+          DCD 20, 3, 1, 4294967291, 4294967295, 8, 4 ;  \
+          DCD (2+3)*4, 10/3, 10:MOD:3, -2-3, :NOT:0, 2+3:SHL:1, 1:OR:6:AND:4\n",
     ),
     (
         b" ADD R0, R1 , # 4\nlab\n",
@@ -37,11 +41,13 @@ const TEXTS: [(&[u8], &[u8]); 23] = [
     ),
     (
         b" MOVS R0,#-1\n CMP R1,# -4\n addlo r2,r2,#-4\n ANDEQS R3,R4,#&FFFFFF00\n",
-        b" MVNS R0,#0 ;  MOVS R0,#-1\n CMN R1,#4 ;  CMP R1,# -4\n subcc r2,r2,#4 ;  addlo r2,r2,#-4\n BICEQS R3,R4,#255 ;  ANDEQS R3,R4,#&FFFFFF00\n",
+        b" MVNS R0,#0 ;  MOVS R0,#-1\n CMN R1,#4 ;  CMP R1,# -4\n subcc r2,r2,#4 ;  addlo r2,r2,#-4\n \
+          BICEQS R3,R4,#255 ;  ANDEQS R3,R4,#&FFFFFF00\n",
     ),
     (
         b" MOV R0,#-1,0\n ADD R0,R1,R2,LSL #31\n MOV R0,#&102\n SUB R1,R1,#256\n ORR R0,R0,#-1\n",
-        b" MVN R0,#0,0 ;  MOV R0,#-1,0\n ADD R0,R1,R2,LSL #31\n MOV R0,#&102\n SUB R1,R1,#256\n ORR R0,R0,#4294967295 ;  ORR R0,R0,#-1\n",
+        b" MVN R0,#0,0 ;  MOV R0,#-1,0\n ADD R0,R1,R2,LSL #31\n MOV R0,#&102\n SUB R1,R1,#256\n \
+          ORR R0,R0,#4294967295 ;  ORR R0,R0,#-1\n",
     ),
     (
         b" DCD 2_1010,9_17,0x1F,8_777\n",
@@ -57,7 +63,8 @@ const TEXTS: [(&[u8], &[u8]); 23] = [
     ),
     (
         b" MOV R0,#2   ; two\n DCD &10 , 0x1F,7 ; three\n LDR R0,[R1,#&10 ]\n SUB R0,R0,#1 \t\n",
-        b" MOV R0,#2   ; two\n DCD &10, 0x1F,7 ;  DCD &10 , 0x1F,7 ; three\n LDR R0,[R1,#&10] ;  LDR R0,[R1,#&10 ]\n SUB R0,R0,#1 \t\n",
+        b" MOV R0,#2   ; two\n DCD &10, 0x1F,7 ;  DCD &10 , 0x1F,7 ; three\n \
+          LDR R0,[R1,#&10] ;  LDR R0,[R1,#&10 ]\n SUB R0,R0,#1 \t\n",
     ),
     (
         b"A0 RN 5\n DCD &A0, &a0\n LDR A0,[A0],#4294967292\n SWI &11 ; stop\n",
@@ -68,16 +75,22 @@ const TEXTS: [(&[u8], &[u8]); 23] = [
         b" ; a EQU b + 1\n ; f RN last\n ; b EQU 2\n ; last EQU 12\n MOV R12,#3 ;  MOV f,#a\n",
     ),
     (
-        b" TTL Card\n AREA |Code|, CODE, READONLY\n ENTRY\nn EQU 2\n ASSERT n<4 :LAND: (n:SHL:1=4)\n ASSERT :LNOT:(n>=3)\nl KEEP\n MOV R0,#n\n END\nn EQU 3\n\n GARBAGE,\n",
-        b" ;  TTL Card\n ;  AREA |Code|, CODE, READONLY\n ;  ENTRY\n ; n EQU 2\n ;  ASSERT n<4 :LAND: (n:SHL:1=4)\n ;  ASSERT :LNOT:(n>=3)\nl ; l KEEP\n MOV R0,#2 ;  MOV R0,#n\n ;  END\n ; n EQU 3\n\n ;  GARBAGE,\n",
+        b" TTL Card\n AREA |Code|, CODE, READONLY\n ENTRY\nn EQU 2\n ASSERT n<4 :LAND: (n:SHL:1=4)\n \
+          ASSERT :LNOT:(n>=3)\nl KEEP\n MOV R0,#n\n END\nn EQU 3\n\n GARBAGE,\n",
+        b" ;  TTL Card\n ;  AREA |Code|, CODE, READONLY\n ;  ENTRY\n ; n EQU 2\n \
+          ;  ASSERT n<4 :LAND: (n:SHL:1=4)\n ;  ASSERT :LNOT:(n>=3)\nl ; l KEEP\n \
+          MOV R0,#2 ;  MOV R0,#n\n ;  END\n ; n EQU 3\n\n ;  GARBAGE,\n",
     ),
     (
         b" ^ 4\na # 8\n # 2*2\nb FIELD 1\n MOV R0,#a\n DCD b\n",
         b" ;  ^ 4\n ; a # 8\n ;  # 2*2\n ; b FIELD 1\n MOV R0,#4 ;  MOV R0,#a\n DCD 16 ;  DCD b\n",
     ),
     (
-        b"w RN 12\n ^ 0-4,w\nx # 4\ny # 8\n LDR R0,x\n STRB R1, y ; y\n ADRNE R2,y\n LDR R3,l\nl ADR R4,l\n MAP 8,r1\nz # 0\n adr r0,z\n",
-        b" ; w RN 12\n ;  ^ 0-4,w\n ; x # 4\n ; y # 8\n LDR R0,[R12,#-4] ;  LDR R0,x\n STRB R1, [R12,#0] ;  STRB R1, y ; y\n ADDNE R2,R12,#0 ;  ADRNE R2,y\n LDR R3,l\nl ADR R4,l\n ;  MAP 8,r1\n ; z # 0\n add r0,R1,#8 ;  adr r0,z\n",
+        b"w RN 12\n ^ 0-4,w\nx # 4\ny # 8\n LDR R0,x\n STRB R1, y ; y\n ADRNE R2,y\n LDR R3,l\n\
+          l ADR R4,l\n MAP 8,r1\nz # 0\n adr r0,z\n",
+        b" ; w RN 12\n ;  ^ 0-4,w\n ; x # 4\n ; y # 8\n LDR R0,[R12,#-4] ;  LDR R0,x\n \
+          STRB R1, [R12,#0] ;  STRB R1, y ; y\n ADDNE R2,R12,#0 ;  ADRNE R2,y\n LDR R3,l\n\
+          l ADR R4,l\n ;  MAP 8,r1\n ; z # 0\n add r0,R1,#8 ;  adr r0,z\n",
     ),
     (
         b"n EQU 2\n [ n=2\na EQU 5\n |\na EQU 6\n ]\n MOV R0,#a\n",
@@ -85,7 +98,8 @@ const TEXTS: [(&[u8], &[u8]); 23] = [
     ),
     (
         b" IF 1>2\n [ what\n GARBAGE,\n |\n ]\n END\n ELSE ;\n NOP\n ENDIF ; done\n",
-        b" ;  IF 1>2\n ;  [ what\n ;  GARBAGE,\n ;  |\n ;  ]\n ;  END\n ;  ELSE ;\n MOV R0,R0 ;  NOP\n ;  ENDIF ; done\n",
+        b" ;  IF 1>2\n ;  [ what\n ;  GARBAGE,\n ;  |\n ;  ]\n ;  END\n ;  ELSE ;\n \
+          MOV R0,R0 ;  NOP\n ;  ENDIF ; done\n",
     ),
     (
         b"[ 1=1\n [ 1=1\n |\n MOV R0,#1\n ]\n | \n [\n |\n x,\n ]\n]\n",

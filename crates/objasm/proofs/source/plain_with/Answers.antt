@@ -11,7 +11,7 @@ loop-line-init c =
     let names = meanings_of c.args.names.now in
     record {
       count = omega arith;
-      same = rw c.no_conditions.ensures (after_start (plain_of record { text = c.in_ok-with_capacity.field-0; origins = c.new.result }) (plain_lines false (flow_in names []) 1 (lines_of c.args.source.now)) c.in_ok-with_capacity.ensures.items c.new.ensures.items);
+      same = rw c.no_conditions-conditions.ensures (after_start (plain_of record { text = c.in_ok-with_capacity.field-0; origins = c.new.result }) (plain_lines false (flow_in names []) 1 (lines_of c.args.source.now)) c.in_ok-with_capacity.ensures.items c.new.ensures.items);
     }
 
 pub returns-in-Err-clause-fault : goal.returns-in-Err-clause-fault

@@ -9,7 +9,7 @@ pub loop-line-init : goal.loop-line-init
 loop-line-init c =
     record {
       count = omega arith;
-      same = rw c.no_conditions.ensures refl;
+      same = rw c.no_conditions-conditions.ensures refl;
     }
 
 pub returns-then-ends-clause-ok : goal.returns-then-ends-clause-ok
@@ -39,10 +39,10 @@ pub returns-clause-ok : goal.returns-clause-ok
 returns-clause-ok c =
     let m = meanings_of c.loop-line.names in
     let cs = open_in c.loop-line.conditions in
-    ended_ok c.all_closed.result cs m _ c.all_closed.ensures.ok (settings_end c.args.pass (flow_in m cs) c.loop-line.number c.loop-line.rest.now _ c.in_default.ensures c.loop-line.invariant.same)
+    ended_ok c.all_closed-2.result cs m _ c.all_closed-2.ensures.ok (settings_end c.args.pass (flow_in m cs) c.loop-line.number c.loop-line.rest.now _ c.in_default.ensures c.loop-line.invariant.same)
 
 pub returns-clause-fault : goal.returns-clause-fault
 returns-clause-fault c =
     let m = meanings_of c.loop-line.names in
     let cs = open_in c.loop-line.conditions in
-    ended_fault c.all_closed.result cs m _ c.all_closed.ensures.fault (settings_end c.args.pass (flow_in m cs) c.loop-line.number c.loop-line.rest.now _ c.in_default.ensures c.loop-line.invariant.same)
+    ended_fault c.all_closed-2.result cs m _ c.all_closed-2.ensures.fault (settings_end c.args.pass (flow_in m cs) c.loop-line.number c.loop-line.rest.now _ c.in_default.ensures c.loop-line.invariant.same)
