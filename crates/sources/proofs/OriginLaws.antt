@@ -9,7 +9,7 @@ use Rattle.asm_text.specs.Source.{lines_of}
 use Rattle.asm_text.specs.Spelling.{Spells}
 use Rattle.asm_text.specs.Statements.{Parsed, line_of}
 use Rattle.asm_text.specs.declared.statement.TextFault.{TextFault}
-use Rattle.assembler.specs.Assembles.{Laid, addresses_from, laid, word_count}
+use Rattle.assembler.specs.Assembles.{Laid, addresses_from, laid, places, word_count}
 use Rattle.assembler.specs.Placed.{ArePlaced, IsPlaced}
 use Rattle.assembler.specs.Refusals.{ArePassed}
 use Rattle.assembler.specs.declared.placed_line.PlacedLine.{PlacedLine}
@@ -19,6 +19,7 @@ use Rattle.objasm.specs.Source.{FaultedAt}
 use Rattle.objasm.specs.declared.faults.LineFault.TheVariants.{Scattered}
 use Rattle.objasm.specs.declared.source.DialectFault.{DialectFault}
 use Rattle.objasm.specs.declared.source.DialectFault.TheVariants as dialect_fault
+use Rattle.sources.specs.Dialect.{InGrammar, Own, From, places_by, places_of, text_of}
 use Rattle.sources.specs.Origins.{Stretch, end_of, first_origin, gathered, gathered_from, have_one_origin, read_of, scattered_at, stretch_laid, stretch_of, stretches_of, together, with_read}
 
 -- ## What lines say
@@ -186,3 +187,30 @@ from_one ns s (t ∷ ss) all e =
 pub same_words : (ns : List ℕ) (ss all : List Stretch) → gathered ns ss ≡ Ok all → flat_map words_at all ≡ flat_map words_at ss
 same_words ns [] all e = let is : [] ≡ all = cc in ap (flat_map words_at) (sym is)
 same_words ns (s ∷ ss) all e = from_one ns s ss all e
+
+read_spelled : Reads → (lines : List (List ℕ)) (said : List Parsed) → AllZip (λ line p. Spells p line) lines said → read_of lines ≡ said
+unfolding read_of
+read_spelled reads [] [] h = refl
+read_spelled reads [] (p ∷ ps) h = absurd h
+read_spelled reads (line ∷ lines) [] h = absurd h
+read_spelled reads (line ∷ lines) (p ∷ ps) h =
+    ap (λ (r : Result Parsed TextFault). with_read r (read_of lines)) (reads line p h.0) ∙ ap (λ (more : List Parsed). p ∷ more) (read_spelled reads lines ps h.1)
+
+laid_words : (lines : List Laid) → flat_map words_at (map stretch_laid lines) ≡ flat_map places lines
+laid_words [] = refl
+laid_words (line ∷ lines) = ap (λ (xs : List ℕ). places line ++ xs) (laid_words lines)
+
+placed_words : (placed : List PlacedLine) → flat_map words_at (map stretch_of placed) ≡ flat_map (λ (p : PlacedLine). addresses_from p.at p.words) placed
+placed_words [] = refl
+placed_words (p ∷ placed) = ap (λ (xs : List ℕ). addresses_from p.at p.words ++ xs) (placed_words placed)
+
+by_text : (text : InGrammar) (ss all : List Stretch) → places_by text ss ≡ Ok all → flat_map words_at all ≡ flat_map words_at ss
+by_text (Own text) ss all e = let is : ss ≡ all = cc in ap (flat_map words_at) (sym is)
+by_text (From plain) ss all e = same_words plain.origins ss all e
+
+-- the author's lines have the words of the lines in our grammar
+pub all_listed : Reads → (text : InGrammar) (lines : List Parsed) (placed : List PlacedLine) → AllZip (λ line p. Spells p line) (lines_of (text_of text)) lines → places_of text ≡ Ok (map stretch_of placed)
+    → flat_map places (laid lines) ≡ flat_map (λ (p : PlacedLine). addresses_from p.at p.words) placed
+all_listed reads text lines placed read there =
+    sym (laid_words (laid lines)) ∙ ap (λ (ps : List Parsed). flat_map words_at (map stretch_laid (laid ps))) (sym (read_spelled reads (lines_of (text_of text)) lines read))
+    ∙ sym (by_text text (stretches_of (text_of text)) (map stretch_of placed) there) ∙ placed_words placed
