@@ -7,7 +7,7 @@ use Rattle.std.proofs.lemmas.List.{append-nil}
 use Rattle.asm_text.proofs.WordLaws.{same_Ok}
 use Rattle.objasm.specs.declared.source.DialectFault.{DialectFault}
 use Rattle.objasm.specs.declared.source.DialectFault.TheVariants as dialect
-use Rattle.objasm.specs.declared.source.Pass.{Pass}
+use Rattle.objasm.specs.declared.maps.Pass.{Pass}
 use Rattle.objasm.specs.declared.source.PlainSource.{PlainSource}
 use Rattle.objasm.specs.Conditions.{Conditions, all_closed}
 use Rattle.objasm.specs.Names.{Meanings, Told, mapped}

@@ -15,6 +15,8 @@ use Rattle.objasm.specs.declared.faults.LineFault.{LineFault}
 use Rattle.objasm.specs.declared.faults.LineFault.TheVariants.{BadName, BadRegister, NameTwice}
 use Rattle.objasm.specs.declared.maps.MapLine.{MapLine as CodeMapLine}
 use Rattle.objasm.specs.declared.maps.MapLine.TheVariants as code
+use Rattle.objasm.specs.declared.maps.Pass.{Pass}
+use Rattle.objasm.specs.declared.maps.Pass.TheVariants.{First, Second}
 use Rattle.objasm.specs.declared.names.Kind.TheVariants.{Constant}
 
 -- where places begin, without or with a base register, or how many bytes one has, without or with a name
@@ -98,3 +100,8 @@ settled_again_by m None ps = set_again m (setting_of ps)
 -- the meanings after a line that is read again: maps are as they were
 abbrev pub settled_again : Meanings → List Part → Result Meanings LineFault
 settled_again m ps = settled_again_by m (map_line_of ps) ps
+
+-- by the time that the line is read for the names
+abbrev pub set_in : Pass → Meanings → List Part → Result Meanings LineFault
+set_in First m ps = settled m ps
+set_in Second m ps = settled_again m ps

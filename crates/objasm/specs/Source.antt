@@ -8,16 +8,15 @@ use Rattle.std.specs.Str.{bytes_eq}
 use Rattle.asm_text.specs.Pieces.{first_blank}
 use Rattle.asm_text.specs.Source.{lines_of}
 use Rattle.objasm.specs.Conditions.{Conditions, all_closed, conditions_after, is_hidden, is_taken}
-use Rattle.objasm.specs.Maps.{settled, settled_again}
+use Rattle.objasm.specs.Maps.{set_in}
 use Rattle.objasm.specs.Names.{Meanings, and_then, mapped, no_meanings}
 use Rattle.objasm.specs.Parts.{Part, parts}
 use Rattle.objasm.specs.PlainLines.{Text, body_text}
 use Rattle.objasm.specs.declared.faults.LineFault.{LineFault}
 use Rattle.objasm.specs.declared.faults.LineFault.TheVariants as line
+use Rattle.objasm.specs.declared.maps.Pass.{Pass}
 use Rattle.objasm.specs.declared.source.DialectFault.{DialectFault}
 use Rattle.objasm.specs.declared.source.DialectFault.TheVariants.{Memory, Line}
-use Rattle.objasm.specs.declared.source.Pass.{Pass}
-use Rattle.objasm.specs.declared.source.Pass.TheVariants.{First, Second}
 use Rattle.objasm.specs.declared.source.PlainSource.{PlainSource}
 
 -- ## A line
@@ -36,11 +35,6 @@ pub record Flow : Type 0 where
 
 abbrev pub flow_in : Meanings → Conditions → Flow
 flow_in m cs = record { names = m; conditions = cs }
-
--- by the time that it is read for the names
-abbrev pub set_in : Pass → Meanings → List Part → Result Meanings LineFault
-set_in First m ps = settled m ps
-set_in Second m ps = settled_again m ps
 
 -- lines that are left out set nothing
 abbrev pub set_if : Bool → Pass → Meanings → List Part → Result Meanings LineFault

@@ -2,7 +2,7 @@
 
 ghost use Rattle.std.specs.Prelude.{◌≡◌, IfOk, IfErr, OnOk, Ok, map, option_map};
 ghost use Rattle.objasm.specs.Maps.{Named, lone_line, map_line_of, map_set, map_view, named_line, placed};
-ghost use Rattle.objasm.specs.Maps.{register_in, register_named, settled, settled_again, start_line};
+ghost use Rattle.objasm.specs.Maps.{register_in, register_named, set_in, start_line};
 ghost use Rattle.objasm.specs.Maps.{start_with};
 ghost use Rattle.objasm.specs.Names.{Told, meanings_of};
 ghost use Rattle.objasm.specs.Parts.{part_of};
@@ -13,6 +13,15 @@ use crate::settings::{is_no_name, set_name, set_name_again, value_of};
 use crate::token::{Token, after_blanks, after_field, first_field, lone_run};
 use asm_text::register_of;
 use std::alloc::Global;
+
+/// When the lines are gone through for the names that they set.
+#[derive(Clone, Copy)]
+pub enum Pass {
+    /// First: a name whose value is not known yet waits.
+    First,
+    /// Again, for the names that wait.
+    Second,
+}
 
 /// What a line says of a map.
 #[derive(Clone, Copy)]
@@ -191,36 +200,27 @@ fn put_map(alloc: Global, names: &mut Names, line: MapLine<'_, '_>) -> Result<()
     }
 }
 
-/// Sets what a line sets, where the names in it are known, and else notes its name. A map's must be known.
+/// Sets what a line sets. First the names in a map's line must be known, and any other name whose value needs
+/// one that is not known is noted; the second time its value must be known.
 pub(crate) fn settle(
     alloc: Global,
     names: &mut Names,
+    pass: Pass,
     tokens: &[Token<'_>],
 ) -> Result<(), LineFault>
     ensures ok { OnOk result
-        (settled (meanings_of names.old) (map part_of tokens.now) ≡ Ok (meanings_of names.new)) }
+        (set_in pass (meanings_of names.old) (map part_of tokens.now) ≡ Ok (meanings_of names.new)) }
     ensures fault { IfErr result
-        (λ fault. Told fault (settled (meanings_of names.old) (map part_of tokens.now))) }
+        (λ fault. Told fault (set_in pass (meanings_of names.old) (map part_of tokens.now))) }
 {
     match map_line_of(tokens) {
-        Some(line) => put_map(alloc, names, line),
-        None => set_name(alloc, names, tokens),
-    }
-}
-
-/// Sets what a line sets whose name was noted.
-pub(crate) fn settle_again(
-    alloc: Global,
-    names: &mut Names,
-    tokens: &[Token<'_>],
-) -> Result<(), LineFault>
-    ensures ok { OnOk result
-        (settled_again (meanings_of names.old) (map part_of tokens.now) ≡ Ok (meanings_of names.new)) }
-    ensures fault { IfErr result
-        (λ fault. Told fault (settled_again (meanings_of names.old) (map part_of tokens.now))) }
-{
-    match map_line_of(tokens) {
-        Some(_) => Ok(()),
-        None => set_name_again(alloc, names, tokens),
+        Some(line) => match pass {
+            Pass::First => put_map(alloc, names, line),
+            Pass::Second => Ok(()),
+        },
+        None => match pass {
+            Pass::First => set_name(alloc, names, tokens),
+            Pass::Second => set_name_again(alloc, names, tokens),
+        },
     }
 }

@@ -17,7 +17,7 @@ use crate::conditions::{
     Conditions, innermost, is_hidden, is_taken, no_conditions, step_conditions,
 };
 use crate::faults::LineFault;
-use crate::maps::{settle, settle_again};
+use crate::maps::{Pass, settle};
 use crate::names::Names;
 use crate::plain_lines::put_body;
 use crate::token::{Token, tokens};
@@ -41,15 +41,6 @@ struct Place<'a> {
     line: &'a [u8],
     number: usize,
     is_below: bool,
-}
-
-/// When the lines are gone through for the names that they set.
-#[derive(Clone, Copy)]
-pub enum Pass {
-    /// First: a name whose value is not known yet waits.
-    First,
-    /// Again, for the names that wait.
-    Second,
 }
 
 /// Why a text of the dialect is not translated.
@@ -142,10 +133,7 @@ fn set_if(
     if !is_taken {
         return Ok(());
     }
-    match pass {
-        Pass::First => settle(alloc, names, parts),
-        Pass::Second => settle_again(alloc, names, parts),
-    }
+    settle(alloc, names, pass, parts)
 }
 
 // Notes what a line says of conditions, and sets what it sets.
