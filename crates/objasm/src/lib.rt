@@ -17,6 +17,7 @@ mod evaluation;
 mod exchanges;
 mod faults;
 mod law;
+mod literals;
 mod maps;
 mod names;
 mod numbers;
