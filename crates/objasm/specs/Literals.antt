@@ -113,8 +113,8 @@ no_pool = record { known = no_names; lines = []; first = None }
 abbrev pub word_name : ℕ → List ℕ
 word_name n = codes "literal_" ++ decimal n
 
-abbrev pub word_line : ℕ → List ℕ → List ℕ
-word_line n text = word_name n ++ (codes " DCD " ++ (text ++ 10 ∷ []))
+abbrev pub pool_line : ℕ → List ℕ → List ℕ
+pool_line n text = word_name n ++ (codes " DCD " ++ (text ++ 10 ∷ []))
 
 -- a word that a line loads is put behind the others, unless one of them has the same written in it
 abbrev pub with_word : ℕ → List ℕ → Pool → Pool
@@ -123,7 +123,7 @@ with_word n text p =
     else
       record {
         known = with_name text n p.known;
-        lines = p.lines ++ word_line n text;
+        lines = p.lines ++ pool_line n text;
         first = option_or p.first (Some n);
       }
 

@@ -7,7 +7,7 @@ ghost use Rattle.image.specs.Labels.{address_of};
 ghost use Rattle.objasm.specs.Literals.{after_equals, first_load, has_word_name, is_label_name, is_word_name};
 ghost use Rattle.objasm.specs.Literals.{is_word_part, line_text, literal_for, literal_of, literal_view};
 ghost use Rattle.objasm.specs.Literals.{load_at, load_of, load_view, load_with, loaded, loaded_at, no_pool};
-ghost use Rattle.objasm.specs.Literals.{pool_of, with_operand, with_word, word_line, word_name};
+ghost use Rattle.objasm.specs.Literals.{pool_line, pool_of, with_operand, with_word, word_name};
 ghost use Rattle.objasm.specs.Names.{Told, and_then, mapped, meanings_of, with_name};
 ghost use Rattle.objasm.specs.Parts.{part_of, parts};
 ghost use Rattle.objasm.specs.PlainLines.{body_text};
@@ -213,8 +213,8 @@ fn put_word_name(line: u32, out: &mut Vec<u8>) -> Result<(), AllocError>
     put_decimal(out, line)
 }
 
-fn put_word_line(line: u32, text: &[u8], out: &mut Vec<u8>) -> Result<(), AllocError>
-    ensures { OnOk result (out.new.items ≡ out.old.items ++ word_line line text.now) }
+fn put_pool_line(line: u32, text: &[u8], out: &mut Vec<u8>) -> Result<(), AllocError>
+    ensures { OnOk result (out.new.items ≡ out.old.items ++ pool_line line text.now) }
 {
     put_word_name(line, out)?;
     out.extend_from_slice(b" DCD ")?;
@@ -250,7 +250,7 @@ fn put_word(alloc: Global, pool: &mut Pool, line: u32, text: &[u8]) -> Result<()
     ensures memory { IfErr result (λ fault. fault ≡ LineFault.Memory) }
 {
     note(alloc, &mut pool.known, text, line)?;
-    put_word_line(line, text, &mut pool.lines)?;
+    put_pool_line(line, text, &mut pool.lines)?;
     pool.first = first_of(pool.first, line as usize);
     Ok(())
 }
