@@ -3,7 +3,6 @@ use Rattle.std.proofs.Common.{◌≡◌, ℕ, zero, suc, ◌+◌, ◌-◌, ◌/�
 use Rattle.std.specs.Prelude.{decimal, nat_lt, IfOk, ◌||◌}
 use Rattle.std.specs.Fmt.{digits, digits_onto, digit_glyph}
 use Rattle.std.specs.List.{dedup, dedup_from, list_all, onto_first, range_with_len}
-use Rattle.std.specs.Option.{option_or}
 use Rattle.std.specs.Str.{bytes_eq}
 use Rattle.std.proofs.lemmas.Bool.{and_parts, eq-eqb, ne_eqb}
 use Rattle.std.proofs.lemmas.Bool.Decides.{nat_tests}
@@ -14,10 +13,10 @@ use Rattle.asm_text.specs.Source.{lines_of, starts_feed}
 use Rattle.asm_text.proofs.WordLaws.{same_Ok}
 use Rattle.objasm.specs.Conditions.{Conditions, conditions_after, is_hidden}
 use Rattle.objasm.specs.Exchanges.{exchange_of, flipped, is_rotated, other_head}
-use Rattle.objasm.specs.Literals.{Literal, Load, Moved, Pool, Pooled, after_equals, first_load, has_word_name, is_label_name, line_text, literal_by, literal_for, literal_of as loaded_literal, load_at, load_of, load_text, load_with}
-use Rattle.objasm.specs.Literals.{loaded, loaded_at, no_pool, pool_line, text_by, with_operand, with_word, word_name}
+use Rattle.objasm.specs.Literals.{Literal, Load, Moved, Pool, Pooled, after_equals, first_load, has_word_name, is_label_name, line_text, literal_by, literal_for, literal_of as loaded_literal, load_as, load_at, load_of, load_with}
+use Rattle.objasm.specs.Literals.{loaded, loaded_at, no_pool, pool_line, text_by, with_more, with_operand, with_word, word_name}
 use Rattle.objasm.specs.Maps.{MapLine, map_line_of}
-use Rattle.objasm.specs.Names.{Meanings, and_then, is_set, mapped, with_name}
+use Rattle.objasm.specs.Names.{Meanings, and_then, is_set, mapped}
 use Rattle.objasm.specs.Parts.{Part, Run, Byte, after_blanks, after_field, blank_len, field_len, first_field, front_blanks, is_over, is_stop, lone_run, parts, run_before}
 use Rattle.objasm.specs.PlainLines.{Text, address_in, assert_text, asserted, behind, body_text, exchanged_text, field_text, hex_literal, instruction_text, is_label_field, is_sum, joined, kind_with, literal_at, literal_of, lone, ltorg_text, nop_text, number_text, offset_text, operands_text, operation_text, part_text, parts_text, place_text, placed_text, plain_text, register_text, run_by, spaced_operands, statement_text, stop_text, stops_text, sum_line, sum_text, unmapped_text, unset_text, value_text, word_line, word_with, written, written_so}
 use Rattle.objasm.specs.Settings.{Setting, setting_of, truth_of, value_of}
@@ -599,8 +598,7 @@ pool_or false p q h k = k
 
 with_word_whole : (n : ℕ) (text : List ℕ) (p : Pool) → Whole p.lines → Inside text → Whole (with_word n text p).lines
 with_word_whole n text p h k =
-    pool_or (is_some (p.known text)) p
-    record { known = with_name text n p.known; lines = p.lines ++ pool_line n text; first = option_or p.first (Some n) }
+    pool_or (is_some (p.known text)) p (with_more n text p)
     h (both_whole p.lines (pool_line n text) h (word_whole n text k))
 
 -- ## What stands for a line
@@ -612,7 +610,7 @@ IsSound (Err fault) = Unit {0}
 loaded_sound : (m : Meanings) (n : ℕ) (p : Pool) (l : Load) → IsLoadInside l → Whole p.lines → IsSound (loaded m n p l)
 loaded_sound m n p l h k = by_literal (loaded_literal m l.value) (literal_read m l.value h.value)
   where
-    by_literal : (r : Result Literal LineFault) → ReadInside r → IsSound (mapped (load_text m n p l) r)
+    by_literal : (r : Result Literal LineFault) → ReadInside r → IsSound (mapped (load_as m n p l) r)
     by_literal (Err fault) i = tt
     by_literal (Ok (Moved j)) i = (k, operand_inside m l (moved_word l.word) (35 ∷ decimal j) h (moved_inside l.word h.word) (both (codes "#") (decimal j) refl (decimal_inside j)))
     by_literal (Ok (Pooled text)) i = (with_word_whole n text p k i, operand_inside m l l.word (word_name (first_load n text p)) h h.word (name_inside (first_load n text p)))

@@ -109,23 +109,28 @@ pool_of p = record { known = address_of p.known; lines = p.lines.items; first = 
 abbrev pub no_pool : Pool
 no_pool = record { known = no_names; lines = []; first = None }
 
--- the name of the word that a line of this number is the first to load
+abbrev pub word_front : List ℕ
+word_front = codes "literal_"
+
+-- the name of the word that the line of this number is the first to load
 abbrev pub word_name : ℕ → List ℕ
-word_name n = codes "literal_" ++ decimal n
+word_name n = word_front ++ decimal n
 
 abbrev pub pool_line : ℕ → List ℕ → List ℕ
 pool_line n text = word_name n ++ (codes " DCD " ++ (text ++ 10 ∷ []))
 
--- a word that a line loads is put behind the others, unless one of them has the same written in it
+-- a word that the line of this number loads, behind the others
+abbrev pub with_more : ℕ → List ℕ → Pool → Pool
+with_more n text p =
+    record {
+      known = with_name text n p.known;
+      lines = p.lines ++ pool_line n text;
+      first = option_or p.first (Some n);
+    }
+
+-- it is put there unless one of them has the same written in it
 abbrev pub with_word : ℕ → List ℕ → Pool → Pool
-with_word n text p =
-    if is_some (p.known text) then p
-    else
-      record {
-        known = with_name text n p.known;
-        lines = p.lines ++ pool_line n text;
-        first = option_or p.first (Some n);
-      }
+with_word n text p = if is_some (p.known text) then p else with_more n text p
 
 -- the number of the line that is the first to load it
 abbrev pub first_load : ℕ → List ℕ → Pool → ℕ
@@ -138,21 +143,26 @@ abbrev pub with_operand : Meanings → Load → (word operand : List ℕ) → Li
 with_operand m l word operand =
     l.label ++ (parts_text m l.blanks ++ (word ++ (parts_text m l.register ++ 44 ∷ operand)))
 
-abbrev pub load_text : Meanings → ℕ → Pool → Load → Literal → Pool × List ℕ
-load_text m n p l (Moved k) = (p, with_operand m l (moved_word l.word) (35 ∷ decimal k))
-load_text m n p l (Pooled text) = (with_word n text p, with_operand m l l.word (word_name (first_load n text p)))
+abbrev pub load_as : Meanings → ℕ → Pool → Load → Literal → Pool × List ℕ
+load_as m n p l (Moved k) = (p, with_operand m l (moved_word l.word) (35 ∷ decimal k))
+load_as m n p l (Pooled text) = (with_word n text p, with_operand m l l.word (word_name (first_load n text p)))
 
 -- the pool behind a line of this number, and the line of the dialect that stands for it
 abbrev pub loaded : Meanings → ℕ → Pool → Load → Result (Pool × List ℕ) LineFault
-loaded m n p l = mapped (load_text m n p l) (literal_of m l.value)
+loaded m n p l = mapped (load_as m n p l) (literal_of m l.value)
+
+-- the pool, and what stands for that line in our grammar
+abbrev pub load_text : Meanings → ℕ → Pool → Load → Result (Pool × List ℕ) LineFault
+load_text m n p l = and_then (λ r. mapped (λ text. (r.0, text)) (body_text m (parts r.1))) (loaded m n p l)
 
 abbrev pub text_by : Meanings → ℕ → Pool → Option Load → List Part → Result (Pool × List ℕ) LineFault
-text_by m n p (Some l) ps = and_then (λ r. mapped (λ text. (r.0, text)) (body_text m (parts r.1))) (loaded m n p l)
+text_by m n p (Some l) ps = load_text m n p l
 text_by m n p None ps = mapped (λ text. (p, text)) (body_text m ps)
 
 -- the names of words of pools are no names of the author's
 abbrev pub is_word_name : List ℕ → Bool
-is_word_name run = bytes_eq (take 8 run) (codes "literal_") && begins_number (drop 8 run)
+is_word_name run =
+    bytes_eq (take (length word_front) run) word_front && begins_number (drop (length word_front) run)
 
 abbrev pub is_word_part : Part → Bool
 is_word_part (Run run) = is_word_name run

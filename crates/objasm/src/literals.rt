@@ -1,14 +1,14 @@
 //! Numbers that are loaded, and the pools of words that hold them.
 
-ghost use Rattle.std.specs.Prelude.{◌≡◌, ◌∷◌, ◌++◌, ℕ, List, Some, None, IfOk, IfErr, OnOk, Ok, decimal};
-ghost use Rattle.std.specs.Prelude.{map, option_map};
+ghost use Rattle.std.specs.Prelude.{◌≡◌, ◌∷◌, ◌++◌, Some, IfOk, IfErr, OnOk, Ok, decimal, map, option_map};
 ghost use Rattle.std.specs.Option.{option_or};
 ghost use Rattle.image.specs.Labels.{address_of};
 ghost use Rattle.objasm.specs.Literals.{after_equals, first_load, has_word_name, is_label_name, is_word_name};
 ghost use Rattle.objasm.specs.Literals.{is_word_part, line_text, literal_for, literal_of, literal_view};
-ghost use Rattle.objasm.specs.Literals.{load_at, load_of, load_view, load_with, loaded, loaded_at, no_pool};
-ghost use Rattle.objasm.specs.Literals.{pool_line, pool_of, with_operand, with_word, word_name};
-ghost use Rattle.objasm.specs.Names.{Told, and_then, mapped, meanings_of, with_name};
+ghost use Rattle.objasm.specs.Literals.{load_at, load_of, load_text, load_view, load_with, loaded, loaded_at};
+ghost use Rattle.objasm.specs.Literals.{no_pool, pool_line, pool_of, with_more, with_operand, with_word};
+ghost use Rattle.objasm.specs.Literals.{word_name};
+ghost use Rattle.objasm.specs.Names.{Told, mapped, meanings_of, with_name};
 ghost use Rattle.objasm.specs.Parts.{part_of, parts};
 ghost use Rattle.objasm.specs.PlainLines.{body_text};
 ghost use Rattle.objasm.specs.Settings.{value_of};
@@ -232,8 +232,8 @@ fn first_of(first: Option<usize>, line: usize) -> Option<usize>
     }
 }
 
+// Notes by which line a word is first loaded. None is noted for it.
 fn note(alloc: Global, known: &mut Labels, text: &[u8], line: u32) -> Result<(), LineFault>
-    requires { address_of known.now text.now ≡ None }
     ensures ok { OnOk result (address_of known.new ≡ with_name text.now line (address_of known.old)) }
     ensures memory { IfErr result (λ fault. fault ≡ LineFault.Memory) }
 {
@@ -245,8 +245,7 @@ fn note(alloc: Global, known: &mut Labels, text: &[u8], line: u32) -> Result<(),
 
 // Puts a word behind the others.
 fn put_word(alloc: Global, pool: &mut Pool, line: u32, text: &[u8]) -> Result<(), LineFault>
-    requires { (pool_of pool.now).known text.now ≡ None }
-    ensures ok { OnOk result (pool_of pool.new ≡ with_word line text.now (pool_of pool.old)) }
+    ensures ok { OnOk result (pool_of pool.new ≡ with_more line text.now (pool_of pool.old)) }
     ensures memory { IfErr result (λ fault. fault ≡ LineFault.Memory) }
 {
     note(alloc, &mut pool.known, text, line)?;
@@ -282,22 +281,24 @@ fn word_for_number(alloc: Global, pool: &mut Pool, line: usize, n: u32) -> Resul
     word_for(alloc, pool, line, &text)
 }
 
-// The line with another word, up to its last operand.
-fn front_with(
+// The line with another word, and another operand in the place of `=` and what is behind it.
+fn with_operand(
     alloc: Global,
     names: &Names,
     load: Load<'_, '_>,
     word: &[u8],
+    operand: &[u8],
 ) -> Result<Vec<u8>, AllocError>
-    ensures { IfOk result (λ front. (operand : List ℕ) → front.items ++ operand
-        ≡ with_operand (meanings_of names.now) (load_view load.entry) word.now operand) }
+    ensures { IfOk result (λ text. text.items
+        ≡ with_operand (meanings_of names.now) (load_view load.entry) word.now operand.now) }
 {
-    let mut front = Vec::from_slice(alloc, load.label)?;
-    put_parts(names, load.blanks, &mut front)?;
-    front.extend_from_slice(word)?;
-    put_parts(names, load.register, &mut front)?;
-    front.push(b',')?;
-    Ok(front)
+    let mut text = Vec::from_slice(alloc, load.label)?;
+    put_parts(names, load.blanks, &mut text)?;
+    text.extend_from_slice(word)?;
+    put_parts(names, load.register, &mut text)?;
+    text.push(b',')?;
+    text.extend_from_slice(operand)?;
+    Ok(text)
 }
 
 fn moved_line(
@@ -310,10 +311,9 @@ fn moved_line(
         (load_view load.entry) (moved_word load.entry.word.now) (35 ∷ decimal n)) }
 {
     let word = moved_word(alloc, load.word)?;
-    let mut text = front_with(alloc, names, load, &word)?;
-    text.push(b'#')?;
-    put_decimal(&mut text, n)?;
-    Ok(text)
+    let mut operand = Vec::from_slice(alloc, b"#")?;
+    put_decimal(&mut operand, n)?;
+    with_operand(alloc, names, load, &word, &operand)
 }
 
 fn pooled_line(
@@ -325,9 +325,9 @@ fn pooled_line(
     ensures { IfOk result (λ text. text.items ≡ with_operand (meanings_of names.now)
         (load_view load.entry) load.entry.word.now (word_name first)) }
 {
-    let mut text = front_with(alloc, names, load, load.word)?;
-    put_word_name(first, &mut text)?;
-    Ok(text)
+    let mut name = Vec::new(alloc);
+    put_word_name(first, &mut name)?;
+    with_operand(alloc, names, load, load.word, &name)
 }
 
 // The line of the dialect that stands for one that loads.
@@ -386,13 +386,10 @@ fn load_text(
     line: usize,
     load: Load<'_, '_>,
 ) -> Result<Vec<u8>, LineFault>
-    ensures ok { IfOk result (λ text. and_then
-        (λ r. mapped (λ text. (r.0, text)) (body_text (meanings_of names.now) (parts r.1)))
-        (loaded (meanings_of names.now) line (pool_of pool.old) (load_view load.entry))
-        ≡ Ok (pool_of pool.new, text.items)) }
-    ensures fault { IfErr result (λ fault. Told fault (and_then
-        (λ r. mapped (λ text. (r.0, text)) (body_text (meanings_of names.now) (parts r.1)))
-        (loaded (meanings_of names.now) line (pool_of pool.old) (load_view load.entry)))) }
+    ensures ok { IfOk result (λ text. load_text (meanings_of names.now) line (pool_of pool.old)
+        (load_view load.entry) ≡ Ok (pool_of pool.new, text.items)) }
+    ensures fault { IfErr result (λ fault. Told fault
+        (load_text (meanings_of names.now) line (pool_of pool.old) (load_view load.entry))) }
 {
     let text = loaded(alloc, names, pool, line, load)?;
     body_of_text(alloc, names, &text)
