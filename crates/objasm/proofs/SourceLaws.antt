@@ -12,8 +12,8 @@ use Rattle.objasm.specs.Conditions.{Conditions, all_closed}
 use Rattle.objasm.specs.Names.{Meanings, Told, mapped}
 use Rattle.objasm.specs.Literals.{Pool, line_text, no_pool}
 use Rattle.objasm.specs.Parts.{Part}
-use Rattle.objasm.specs.Source.{FaultedAt, Flow, Plain, Shown, State, assembled_line, at_line, ends, fault_at, given_if, is_ltorg_line, line_settled, line_shown, lines_behind, no_lines, nothing_waits}
-use Rattle.objasm.specs.Source.{plain_lines, plain_of, pool_lines, settings, shown, with_lines}
+use Rattle.objasm.specs.Source.{FaultedAt, Flow, Given, Plain, Shown, State, assembled_line, at_line, end_given, ends, fault_at, given_if, is_ltorg_line, line_settled, line_shown, lines_behind, no_lines, nothing_waits}
+use Rattle.objasm.specs.Source.{plain_lines, plain_of, pool_lines, settings, shown, state_in, with_conditions, with_lines}
 use Rattle.objasm.specs.declared.faults.LineFault.{LineFault}
 use Rattle.objasm.specs.declared.faults.LineFault.TheVariants.{Memory}
 
@@ -132,9 +132,17 @@ given_behind false n p done t = refl
 pub assembled : (m : Meanings) (n : ℕ) (p mid new : Pool) (ps : List Part) (line text : List ℕ) (done shown_there out : Plain) → line_text m n p ps ≡ Ok (mid, text)
     → shown_there ≡ with_lines done (shown n text line) → (new, out) ≡ given_if (is_ltorg_line ps) n mid shown_there → lines_behind done (assembled_line m n p ps line) ≡ Ok (new, out)
 assembled m n p mid new ps line text done shown_there out is put given =
-    ap (λ (r : Result (Pool × List ℕ) LineFault). lines_behind done (mapped (λ r. given_if (is_ltorg_line ps) n r.0 (shown n r.1 line)) r)) is
+    ap (λ (r : Result (Pool × List ℕ) LineFault). lines_behind done (mapped (λ q. given_if (is_ltorg_line ps) n q.0 (shown n q.1 line)) r)) is
     ∙ ap (λ (x : Pool × Plain). Ok x)
     (sym (given_behind (is_ltorg_line ps) n mid done (shown n text line)) ∙ ap (given_if (is_ltorg_line ps) n mid) (sym put) ∙ sym given)
+
+pub ended : (n : ℕ) (p new : Pool) (line : List ℕ) (done mid out : Plain) → mid ≡ with_lines done (shown n [] line) → (new, out) ≡ given_if true n p mid → lines_behind done (end_given n p line) ≡ Ok (new, out)
+ended n p new line done mid out put given =
+    ap (λ (x : Pool × Plain). Ok x) (sym (given_behind true n p done (shown n [] line)) ∙ ap (given_if true n p) (sym put) ∙ sym given)
+
+pub behind_conditions : (cs : Conditions) (p : Pool) (done out : Plain) (r : Given) → lines_behind done r ≡ Ok (p, out) → lines_behind done (with_conditions cs r) ≡ Ok (state_in cs p, out)
+behind_conditions cs p done out (Ok g) is = ap (λ (x : Pool × Plain). Ok (state_in cs x.0, x.1)) (same_Ok (g.0, with_lines done g.1) (p, out) is)
+behind_conditions cs p done out (Err fault) is = absurd cc
 
 -- ## The numbers of lines of a text
 

@@ -148,10 +148,14 @@ taken_line m s n ps text =
     and_then (λ next. with_conditions next (line_given (is_hidden s.conditions ps) m n s.pool ps text))
     (conditions_after m n s.conditions ps)
 
--- at the end the words stand that wait; below it conditions are none
+-- at the end the words stand that wait; below it none does
+abbrev pub end_given : ℕ → Pool → List ℕ → Given
+end_given n p text = Ok (given_if true n p (shown n [] text))
+
+-- conditions below the end are none
 abbrev pub line_shown : Bool → Meanings → State → ℕ → List ℕ → Shown
 line_shown ended m s n text =
-    if ended then with_conditions s.conditions (Ok (given_if true n s.pool (shown n [] text)))
+    if ended then with_conditions s.conditions (end_given n s.pool text)
     else taken_line m s n (parts (body text)) text
 
 -- ## All lines

@@ -8,7 +8,8 @@ ghost use Rattle.objasm.specs.Conditions.{all_closed, open_in};
 ghost use Rattle.objasm.specs.Literals.{no_pool, pool_of};
 ghost use Rattle.objasm.specs.Names.{Meanings, Told, mapped, meanings_of};
 ghost use Rattle.objasm.specs.Parts.{part_of, parts};
-ghost use Rattle.objasm.specs.Source.{FaultedAt, assembled_line, body, body_len, ends, fault_at, flow_in};
+ghost use Rattle.objasm.specs.Source.{FaultedAt, assembled_line, body, body_len, end_given, ends, fault_at};
+ghost use Rattle.objasm.specs.Source.{flow_in};
 ghost use Rattle.objasm.specs.Source.{given_if, is_end, is_ltorg_at, is_ltorg_line, line_settled, line_shown};
 ghost use Rattle.objasm.specs.Source.{lines_behind, meanings_in, no_lines, nothing_waits, plain_lines, plain_of};
 ghost use Rattle.objasm.specs.Source.{pool_lines, set_if, settings, shown, shown_line, state_in, stripped};
@@ -354,7 +355,21 @@ fn put_assembled(
     Ok(())
 }
 
+// Puts what stands for the line of the end, or for one below it.
+#[tactic(auto, using(crate::proofs::SourceLaws::ended))]
+fn put_end(alloc: Global, place: Place<'_>, out: &mut Output) -> Result<(), AllocError>
+    ensures { OnOk result
+        (lines_behind (plain_of out.old.plain)
+        (end_given place.entry.number (pool_of out.old.pool) place.entry.line.now)
+        ≡ Ok (pool_of out.new.pool, plain_of out.new.plain)) }
+{
+    put_shown_line(&mut out.plain, &[], place)?;
+    give_if(alloc, true, place.number, out)?;
+    Ok(())
+}
+
 // Puts what stands for a line in front of the end, and notes what it says of conditions.
+#[tactic(auto, using(crate::proofs::SourceLaws::behind_conditions))]
 fn put_taken(
     alloc: Global,
     names: &Names,
@@ -382,6 +397,7 @@ fn put_taken(
 }
 
 // Puts what stands for a line.
+#[tactic(auto, using(crate::proofs::SourceLaws::behind_conditions))]
 fn put_line(
     alloc: Global,
     names: &Names,
@@ -399,8 +415,7 @@ fn put_line(
         (state_in (open_in conditions.old) (pool_of out.old.pool)) place.entry.number place.entry.line.now)) }
 {
     if place.is_below {
-        put_shown_line(&mut out.plain, &[], place)?;
-        give_if(alloc, true, place.number, out)?;
+        put_end(alloc, place, out)?;
         return Ok(());
     }
     put_taken(alloc, names, conditions, place, out)
@@ -416,10 +431,10 @@ fn is_below(ended: bool, conditions: &Conditions, line: &[u8]) -> bool
 // The lines, unless words wait at the end.
 fn given(out: Output) -> Result<PlainSource, DialectFault>
     ensures ok { IfOk result (λ p.
-        mapped (with_lines (plain_of out.old.plain)) (nothing_waits (pool_of out.old.pool).first no_lines)
+        mapped (with_lines (plain_of out.plain)) (nothing_waits (pool_of out.pool).first no_lines)
         ≡ Ok (plain_of p)) }
     ensures fault { IfErr result (λ fault.
-        FaultedAt fault (nothing_waits (pool_of out.old.pool).first no_lines)) }
+        FaultedAt fault (nothing_waits (pool_of out.pool).first no_lines)) }
 {
     match out.pool.first {
         Some(line) => Err(DialectFault::Line(LineFault::PoolMissing, line)),
