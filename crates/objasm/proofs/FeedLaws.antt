@@ -567,7 +567,7 @@ Whole t = (rest : List ℕ) → length (lines_of (t ++ rest)) ≡ length (lines_
 
 nothing_whole : Whole []
 unfolding lines_of
-nothing_whole rest = omega arith
+nothing_whole = λ rest. omega arith
 
 both_whole : (s t : List ℕ) → Whole s → Whole t → Whole (s ++ t)
 both_whole s t h k = λ rest.
@@ -589,7 +589,7 @@ line_whole t h = λ rest.
 word_whole : (n : ℕ) (text : List ℕ) → Inside text → Whole (pool_line n text)
 unfolding is_in_line
 word_whole n text h =
-    subst Whole (append_assoc (word_name n) (codes " DCD " ++ text) (10 ∷ []))
+    subst (λ (x : List ℕ). Whole x) (append_assoc (word_name n) (codes " DCD " ++ text) (10 ∷ []))
     (line_whole (word_name n ++ (codes " DCD " ++ text)) (both (word_name n) (codes " DCD " ++ text) (name_inside n) (both (codes " DCD ") text refl h)))
 
 pool_or : (b : Bool) (p q : Pool) → Whole p.lines → Whole q.lines → Whole (cond b p q).lines
@@ -680,7 +680,7 @@ given_of false n p plain text w h k = (w, shown_of n plain text h k)
 assembled_of : (m : Meanings) (n : ℕ) (p : Pool) (ps : List Part) (text : List ℕ) → AllInside ps → Inside text → Whole p.lines → IsGiven n (assembled_line m n p ps text)
 assembled_of m n p ps text h k w = by_text (line_text m n p ps) (line_sound m n p ps h w)
   where
-    by_text : (r : Result (Pool × List ℕ) LineFault) → IsSound r → IsGiven n (mapped (λ r. given_if (is_ltorg_line ps) n r.0 (shown n r.1 text)) r)
+    by_text : (r : Result (Pool × List ℕ) LineFault) → IsSound r → IsGiven n (mapped (λ q. given_if (is_ltorg_line ps) n q.0 (shown n q.1 text)) r)
     by_text (Ok r) s = given_of (is_ltorg_line ps) n r.0 r.1 text s.0 s.1 k
     by_text (Err fault) s = tt
 
@@ -742,8 +742,8 @@ counted ended m s n [] p h w is = none_counted s.pool.first p is
 counted ended m s n (l ∷ ls) p h w is =
     let a = and_parts (list_all is_in_line l) (all_lines ls) h in
     let below = ended || ends s.conditions l in
-    next_all IsCounted n (line_shown below m s n l) (λ t. plain_lines below m t (n + 1) ls) p (shown_line_of below m s n l a.0 w)
-    (λ t x q v of there. joined_counted n x q of (counted below m t (n + 1) ls q a.1 v there)) is
+    next_all (λ q. IsCounted q) n (line_shown below m s n l) (λ t. plain_lines below m t (n + 1) ls) p (shown_line_of below m s n l a.0 w)
+    (λ t x q v its there. joined_counted n x q its (counted below m t (n + 1) ls q a.1 v there)) is
 
 -- the numbers behind a smaller one
 abbrev Numbered : ℕ → ℕ → List ℕ → Type 0
@@ -762,7 +762,7 @@ joined_numbered n k x q h later = λ before lt.
     let e : x.origins ++ q.origins ≡ n ∷ (map (λ _. n) h.more ++ q.origins) = ap (λ (ns : List ℕ). ns ++ q.origins) h.origins in
     let apart : eqb n before ≡ false = ne_eqb n before (λ same. omega (arith, lt, same)) in
     let inside : dedup_from eqb n (map (λ _. n) h.more ++ q.origins) ≡ n ∷ range_with_len (n + 1) k = same_number n h.more q.origins ∙ later n (omega arith) in
-    ap (dedup_from eqb before) e ∙ rw apart (ap (λ (ns : List ℕ). before ∷ ns) inside)
+    ap (λ (ns : List ℕ). dedup_from eqb before ns) e ∙ rw apart (ap (λ (ns : List ℕ). before ∷ ns) inside)
 
 numbered : (ended : Bool) (m : Meanings) (s : State) (n : ℕ) (ls : List (List ℕ)) (p : Plain) → all_lines ls ≡ true → Whole s.pool.lines → plain_lines ended m s n ls ≡ Ok p → Numbered n (length ls) p.origins
 unfolding plain_lines all_lines
@@ -771,12 +771,12 @@ numbered ended m s n (l ∷ ls) p h w is =
     let a = and_parts (list_all is_in_line l) (all_lines ls) h in
     let below = ended || ends s.conditions l in
     next_all (λ q. Numbered n (suc (length ls)) q.origins) n (line_shown below m s n l) (λ t. plain_lines below m t (n + 1) ls) p (shown_line_of below m s n l a.0 w)
-    (λ t x q v of there. joined_numbered n (length ls) x q of (numbered below m t (n + 1) ls q a.1 v there)) is
+    (λ t x q v its there. joined_numbered n (length ls) x q its (numbered below m t (n + 1) ls q a.1 v there)) is
 
 first_numbered : (k : ℕ) (x q : Plain) → IsOf 1 x → Numbered 2 k q.origins → dedup eqb (with_lines x q).origins ≡ 1 ∷ range_with_len 2 k
 first_numbered k x q h later =
     let e : x.origins ++ q.origins ≡ 1 ∷ (map (λ _. 1) h.more ++ q.origins) = ap (λ (ns : List ℕ). ns ++ q.origins) h.origins in
-    ap (dedup eqb) e ∙ same_number 1 h.more q.origins ∙ later 1 (omega arith)
+    ap (λ (ns : List ℕ). dedup eqb ns) e ∙ same_number 1 h.more q.origins ∙ later 1 (omega arith)
 
 abbrev AreLines : List (List ℕ) → Plain → Type 0
 AreLines ls p = IsCounted p × (dedup eqb p.origins ≡ range_with_len 1 (length ls))
@@ -789,7 +789,7 @@ all_numbered m (l ∷ ls) p h is =
     let s = state_in [] no_pool in
     let below = false || ends s.conditions l in
     next_all (λ q. dedup eqb q.origins ≡ 1 ∷ range_with_len 2 (length ls)) 1 (line_shown below m s 1 l) (λ t. plain_lines below m t 2 ls) p (shown_line_of below m s 1 l a.0 nothing_whole)
-    (λ t x q v of there. first_numbered (length ls) x q of (numbered below m t 2 ls q a.1 v there)) is
+    (λ t x q v its there. first_numbered (length ls) x q its (numbered below m t 2 ls q a.1 v there)) is
 
 are_lines : (r : Result Meanings (LineFault × ℕ)) (ls : List (List ℕ)) (p : Plain) → all_lines ls ≡ true → then_lines r ls ≡ Ok p → AreLines ls p
 are_lines (Ok m) ls p h is = (counted false m (state_in [] no_pool) 1 ls p h nothing_whole is, all_numbered m ls p h is)

@@ -1,5 +1,5 @@
--- Numbers that are loaded: `LDR Rd,=expression`. Where MOV or MVN gives the number, that is taken; else a word of a
--- pool holds it, which stands at the next LTORG or at the end (our reading of ObjAsm's manual on literals;
+-- Numbers that are loaded: `LDR Rd,=expression`. Where MOV or MVN gives the number, that is taken; else a word of
+-- a pool holds it, which stands at the next LTORG or at the end (our reading of ObjAsm's manual on literals;
 -- docs/DECISIONS.md).
 use Rattle.std.specs.Prelude.{◌==◌, ◌&&◌, ◌||◌, not, ℕ, Bool, false, List, [], ◌∷◌, ◌++◌, codes, decimal, drop}
 use Rattle.std.specs.Prelude.{length, take, unwrap_or, Option, Some, None, is_some, option_map, Result, Ok, Err}
