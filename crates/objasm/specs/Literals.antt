@@ -1,17 +1,17 @@
--- Numbers that are loaded: `LDR Rd,=expression`. Where MOV or MVN gives the number, that is taken; else a word of
--- a pool holds it, which stands at the next LTORG or at the end (our reading of ObjAsm's manual on literals;
--- docs/DECISIONS.md).
-use Rattle.std.specs.Prelude.{◌==◌, ◌&&◌, ◌||◌, not, ℕ, Bool, false, List, [], ◌∷◌, ◌++◌, codes, decimal, drop}
-use Rattle.std.specs.Prelude.{length, take, unwrap_or, Option, Some, None, is_some, option_map, Result, Ok, Err}
-use Rattle.std.specs.Prelude.{if◌then◌else◌, map}
+-- Numbers that are loaded: `LDR Rd,=expression`. Where MOV or MVN gives the number, that is taken; else a word
+-- of a pool holds it, which stands at the next LTORG or at the end (our reading of ObjAsm's manual on
+-- literals; docs/DECISIONS.md).
+use Rattle.std.specs.Prelude.{◌==◌, ◌&&◌, ◌||◌, not, ℕ, Bool, false, List, [], ◌∷◌, ◌++◌, codes, decimal}
+use Rattle.std.specs.Prelude.{drop, length, map, take, unwrap_or, Option, Some, None, is_some, option_map}
+use Rattle.std.specs.Prelude.{Result, Ok, Err, if◌then◌else◌}
 use Rattle.std.specs.List.{list_any}
 use Rattle.std.specs.Option.{option_or}
 use Rattle.std.specs.Str.{bytes_eq}
 use Rattle.image.specs.Labels.{Names, no_names, address_of}
 use Rattle.objasm.specs.Exchanges.{flipped, is_rotated}
 use Rattle.objasm.specs.Names.{Meanings, and_then, is_set, mapped, with_name}
-use Rattle.objasm.specs.Parts.{Part, Run, Byte, after_blanks, after_field, first_field, front_blanks, lone_run}
-use Rattle.objasm.specs.Parts.{part_of, parts}
+use Rattle.objasm.specs.Parts.{Part, Run, Byte, after_blanks, after_field, first_field, front_blanks}
+use Rattle.objasm.specs.Parts.{lone_run, part_of, parts}
 use Rattle.objasm.specs.PlainLines.{body_text, parts_text}
 use Rattle.objasm.specs.Settings.{is_no_name, value_of}
 use Rattle.objasm.specs.Symbols.{begins_number}
@@ -56,7 +56,8 @@ loaded_at _ = None
 abbrev pub load_with : (label : List ℕ) → (blanks : List Part) → (word : List ℕ) → List Part → Option Load
 load_with label blanks word ps =
     option_map
-    (λ value. record { label = label; blanks = blanks; word = word; register = first_field ps; value = value })
+    (λ value.
+    record { label = label; blanks = blanks; word = word; register = first_field ps; value = value })
     (loaded_at (after_field ps))
 
 abbrev pub load_at : (label : List ℕ) → (blanks : List Part) → List Part → Option Load
@@ -145,7 +146,8 @@ with_operand m l word operand =
 
 abbrev pub load_as : Meanings → ℕ → Pool → Load → Literal → Pool × List ℕ
 load_as m n p l (Moved k) = (p, with_operand m l (moved_word l.word) (35 ∷ decimal k))
-load_as m n p l (Pooled text) = (with_word n text p, with_operand m l l.word (word_name (first_load n text p)))
+load_as m n p l (Pooled text) =
+    (with_word n text p, with_operand m l l.word (word_name (first_load n text p)))
 
 -- the pool behind a line of this number, and the line of the dialect that stands for it
 abbrev pub loaded : Meanings → ℕ → Pool → Load → Result (Pool × List ℕ) LineFault

@@ -11,8 +11,8 @@ ghost use Rattle.objasm.specs.Parts.{part_of, parts};
 ghost use Rattle.objasm.specs.Source.{FaultedAt, assembled_line, body, body_len, end_given, ends, fault_at};
 ghost use Rattle.objasm.specs.Source.{flow_in};
 ghost use Rattle.objasm.specs.Source.{given_if, is_end, is_ltorg_at, is_ltorg_line, line_settled, line_shown};
-ghost use Rattle.objasm.specs.Source.{lines_behind, meanings_in, no_lines, nothing_waits, plain_lines, plain_of};
-ghost use Rattle.objasm.specs.Source.{pool_lines, set_if, settings, shown, shown_line, state_in, stripped};
+ghost use Rattle.objasm.specs.Source.{lines_behind, meanings_in, no_lines, nothing_waits, plain_lines};
+ghost use Rattle.objasm.specs.Source.{plain_of, pool_lines, set_if, settings, shown, shown_line, state_in, stripped};
 ghost use Rattle.objasm.specs.Source.{taken_line, translated, trimmed, with_lines};
 ghost use Rattle.objasm.specs.declared.source.DialectFault.TheVariants.{Memory};
 
