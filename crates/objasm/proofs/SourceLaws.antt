@@ -129,16 +129,17 @@ given_behind : (gives : Bool) (n : ℕ) (p : Pool) (done t : Plain) → given_if
 given_behind true n p done t = ap (λ (x : Plain). (no_pool, x)) (sym (behind_both done t (pool_lines n p)))
 given_behind false n p done t = refl
 
-pub assembled : (m : Meanings) (n : ℕ) (p mid new : Pool) (ps : List Part) (line text : List ℕ) (done shown_there out : Plain) → line_text m n p ps ≡ Ok (mid, text)
-    → shown_there ≡ with_lines done (shown n text line) → (new, out) ≡ given_if (is_ltorg_line ps) n mid shown_there → lines_behind done (assembled_line m n p ps line) ≡ Ok (new, out)
-assembled m n p mid new ps line text done shown_there out is put given =
+pub assembled : (m : Meanings) (n : ℕ) (p mid new : Pool) (ps : List Part) (line text : List ℕ) (done shown_there out : Plain) (gives : Bool) → line_text m n p ps ≡ Ok (mid, text)
+    → shown_there ≡ with_lines done (shown n text line) → gives ≡ is_ltorg_line ps → (new, out) ≡ given_if gives n mid shown_there → lines_behind done (assembled_line m n p ps line) ≡ Ok (new, out)
+assembled m n p mid new ps line text done shown_there out gives is put by given =
     ap (λ (r : Result (Pool × List ℕ) LineFault). lines_behind done (mapped (λ q. given_if (is_ltorg_line ps) n q.0 (shown n q.1 line)) r)) is
     ∙ ap (λ (x : Pool × Plain). Ok x)
-    (sym (given_behind (is_ltorg_line ps) n mid done (shown n text line)) ∙ ap (given_if (is_ltorg_line ps) n mid) (sym put) ∙ sym given)
+    (sym (given_behind (is_ltorg_line ps) n mid done (shown n text line)) ∙ ap (λ (x : Plain). given_if (is_ltorg_line ps) n mid x) (sym put)
+    ∙ ap (λ (b : Bool). given_if b n mid shown_there) (sym by) ∙ sym given)
 
 pub ended : (n : ℕ) (p new : Pool) (line : List ℕ) (done mid out : Plain) → mid ≡ with_lines done (shown n [] line) → (new, out) ≡ given_if true n p mid → lines_behind done (end_given n p line) ≡ Ok (new, out)
 ended n p new line done mid out put given =
-    ap (λ (x : Pool × Plain). Ok x) (sym (given_behind true n p done (shown n [] line)) ∙ ap (given_if true n p) (sym put) ∙ sym given)
+    ap (λ (x : Pool × Plain). Ok x) (sym (given_behind true n p done (shown n [] line)) ∙ ap (λ (x : Plain). given_if true n p x) (sym put) ∙ sym given)
 
 pub behind_conditions : (cs : Conditions) (p : Pool) (done out : Plain) (r : Given) → lines_behind done r ≡ Ok (p, out) → lines_behind done (with_conditions cs r) ≡ Ok (state_in cs p, out)
 behind_conditions cs p done out (Ok g) is = ap (λ (x : Pool × Plain). Ok (state_in cs x.0, x.1)) (same_Ok (g.0, with_lines done g.1) (p, out) is)
