@@ -20,9 +20,7 @@ use crate::names::Names;
 use crate::plain_lines::{put_body, put_decimal, put_parts};
 use crate::settings::{is_no_name, value_of};
 use crate::symbols::begins_number;
-use crate::token::{
-    Token, after_blanks, after_field, first_field, front_blanks, lone_run, tokens,
-};
+use crate::token::{Token, after_blanks, after_field, first_field, front_blanks, lone_run, tokens};
 use crate::words::{is_load, moved_word};
 use image::Labels;
 use std::alloc::{AllocError, Global};

@@ -28,7 +28,8 @@ use crate::token::{
     Token, after_blanks, after_field, first_field, front_blanks, is_over, is_stop, lone_run,
 };
 use crate::words::{
-    Operands, is_adr, is_assert, is_directive, is_ltorg, is_nop, is_silent, kind_of, put_word_text, sum_word,
+    Operands, is_adr, is_assert, is_directive, is_ltorg, is_nop, is_silent, kind_of, put_word_text,
+    sum_word,
 };
 use asm_text::{read_hex, read_number};
 use itoa::Buffer;
@@ -207,7 +208,11 @@ fn put_part(names: &Names, token: Token<'_>, out: &mut Vec<u8>) -> Result<(), Al
     }
 }
 
-pub(crate) fn put_parts(names: &Names, tokens: &[Token<'_>], out: &mut Vec<u8>) -> Result<(), AllocError>
+pub(crate) fn put_parts(
+    names: &Names,
+    tokens: &[Token<'_>],
+    out: &mut Vec<u8>,
+) -> Result<(), AllocError>
     ensures { OnOk result
         (out.new.items ≡ out.old.items ++ parts_text (meanings_of names.now) (map part_of tokens.now)) }
 {

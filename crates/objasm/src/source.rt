@@ -262,11 +262,7 @@ fn put_ended(out: &mut Vec<u8>, plain: &[u8], line: &[u8]) -> Result<(), AllocEr
 }
 
 // Puts what is shown of a line.
-fn put_shown_line(
-    out: &mut PlainSource,
-    text: &[u8],
-    place: Place<'_>,
-) -> Result<(), AllocError>
+fn put_shown_line(out: &mut PlainSource, text: &[u8], place: Place<'_>) -> Result<(), AllocError>
     ensures { OnOk result
         (plain_of out.new
         ≡ with_lines (plain_of out.old) (shown place.entry.number text.now place.entry.line.now)) }
@@ -289,11 +285,7 @@ fn put_origins(text: &[u8], number: usize, origins: &mut Vec<usize>) -> Result<(
     Ok(())
 }
 
-fn put_pool_lines(
-    pool: &Pool,
-    number: usize,
-    out: &mut PlainSource,
-) -> Result<(), AllocError>
+fn put_pool_lines(pool: &Pool, number: usize, out: &mut PlainSource) -> Result<(), AllocError>
     ensures { OnOk result
         (plain_of out.new ≡ with_lines (plain_of out.old) (pool_lines number (pool_of pool.now))) }
 {

@@ -41,8 +41,8 @@ const DIRECTIVES: [&[u8]; 49] = [
     b"ADRL", b"ALIGN", b"AOF", b"AOUT", b"BIN", b"CN", b"CP", b"DATA", b"DCB", b"DCFD", b"DCFS",
     b"DCW", b"ELSE", b"END", b"ENDIF", b"EQU", b"FIELD", b"FN", b"GBLA", b"GBLL", b"GBLS", b"GET",
     b"GLOBAL", b"IF", b"IMPORT", b"INCBIN", b"INCLUDE", b"INFO", b"LCLA", b"LCLL", b"LCLS",
-    b"LEAF", b"LIB", b"LNK", b"MACRO", b"MAP", b"MEND", b"MEXIT", b"NOFP", b"RLIST",
-    b"RN", b"ROUT", b"SETA", b"SETL", b"SETS", b"SPACE", b"STRONG", b"WEND", b"WHILE",
+    b"LEAF", b"LIB", b"LNK", b"MACRO", b"MAP", b"MEND", b"MEXIT", b"NOFP", b"RLIST", b"RN",
+    b"ROUT", b"SETA", b"SETL", b"SETS", b"SPACE", b"STRONG", b"WEND", b"WHILE",
 ];
 
 /// Whether a word is one of those.
