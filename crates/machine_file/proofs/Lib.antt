@@ -6,6 +6,7 @@ mod KeyFaults
 mod MachineValueLemmas
 mod OnceLemmas
 mod PutWordLemmas
+mod DeviceLemmas
 mod MachineRuleLemmas
 mod FaultTableLemmas
 mod KeyTableLemmas
