@@ -7,6 +7,7 @@ mod MachineValueLemmas
 mod OnceLemmas
 mod PutWordLemmas
 mod DeviceLemmas
+mod DeviceStartLemmas
 mod MachineRuleLemmas
 mod FaultTableLemmas
 mod KeyTableLemmas
