@@ -1,5 +1,5 @@
 -- The machine that a file states, before words are put into its memory: as it is after a reset, but for what
--- the file states (R15 by the VL86C010 data sheet, IOC by that of the VL86C410, VIDC by that of the VL86C310).
+-- the file states (R15, IOC and VIDC by the VL86C010, VL86C410 and VL86C310 data sheets).
 use Rattle.std.specs.Prelude.{◌≡◌, ◌+◌, ◌*◌, ◌^◌, ◌<◌, ◌≤◌, ◌==◌, ◌++◌, ℕ, List, [], ◌∷◌, length, All}
 use Rattle.std.specs.Prelude.{Bool, if◌then◌else◌, Option, Some, None, is_some, unwrap_or}
 use Rattle.arm2_decode.specs.Allowed.{bit_of}

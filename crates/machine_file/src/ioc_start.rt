@@ -39,8 +39,8 @@ fn write(ioc: &mut Ioc, offset: u32, byte: u8)
 
 // ## Timers
 
-// The offset of a timer's first register: its latch's low byte. The high byte is at 4 more, and a write at 8 more
-// has the latch as the count.
+// The offset of a timer's first register: its latch's low byte. The high byte is at 4 more, and a write at 8
+// more has the latch as the count.
 fn first_of(timer: TimerName) -> u32
     ensures first { result ≡ first_of timer }
     ensures below { result < 0x70 }
