@@ -63,6 +63,10 @@ fn is_bank(bank: &Bank)
     are_words(&bank.words);
 }
 
+fn is_byte(byte: u8)
+    ensures { byte ≤ 0xFF }
+{}
+
 fn is_count(timer: TimerSetting)
     ensures latch { timer.latch ≤ 0xFFFF }
     ensures count { IfSome timer.count (λ n. n ≤ 0xFFFF) }
@@ -77,7 +81,9 @@ fn are_latched(requests: &Requests)
 fn is_ioc(ioc: &IocSetting)
     ensures { IsIocInRange ioc.now }
 {
-    let _masks = (ioc.mask_a, ioc.mask_b, ioc.mask_fiq);
+    is_byte(ioc.mask_a);
+    is_byte(ioc.mask_b);
+    is_byte(ioc.mask_fiq);
     are_latched(&ioc.requests_a);
     is_count(ioc.timer_0);
     is_count(ioc.timer_1);

@@ -23,7 +23,7 @@ use crate::pages::{Controller, MappedPage};
 use crate::processor::Processor;
 use crate::registers::NAMES;
 use crate::rules::keeps_rules;
-use crate::vidc_settings::{TenBits, VidcSetting};
+use crate::vidc_settings::{RateBits, TenBits, VidcSetting};
 use arm2_effect::Mode;
 use memc::PageSize;
 use std::alloc::{AllocError, Global};
@@ -250,6 +250,12 @@ fn ioc_table(alloc: Global, ioc: &IocSetting) -> Result<Table, AllocError>
     Ok(table)
 }
 
+fn value_in(register: &TenBits) -> u32
+    ensures { result ≡ register.now }
+{
+    register.value
+}
+
 fn value_of(register: &Option<TenBits>) -> Option<u32>
     ensures { result ≡ register.now }
 {
@@ -257,6 +263,12 @@ fn value_of(register: &Option<TenBits>) -> Option<u32>
         Some(register) => Some(register.value),
         None => None,
     }
+}
+
+fn rate_in(rate: &RateBits) -> u32
+    ensures { result ≡ rate.now }
+{
+    rate.bits
 }
 
 fn set_vidc_rows(alloc: Global, table: &mut Table, vidc: &VidcSetting) -> Result<(), AllocError>
@@ -268,8 +280,8 @@ fn set_vidc_rows(alloc: Global, table: &mut Table, vidc: &VidcSetting) -> Result
     set_optional(alloc, table, "horizontal_cycle", horizontal)?;
     let vertical = some_number(value_of(&vidc.vertical_cycle));
     set_optional(alloc, table, "vertical_cycle", vertical)?;
-    set_optional(alloc, table, "display_end", unless_zero(vidc.display_end.value))?;
-    set_optional(alloc, table, "pixel_rate", unless_zero(vidc.pixel_rate.bits))?;
+    set_optional(alloc, table, "display_end", unless_zero(value_in(&vidc.display_end)))?;
+    set_optional(alloc, table, "pixel_rate", unless_zero(rate_in(&vidc.pixel_rate)))?;
     set_optional(alloc, table, "ticks", unless_zero(vidc.ticks))
 }
 
@@ -294,6 +306,18 @@ fn set_devices(alloc: Global, table: &mut Table, file: &MachineFile) -> Result<(
 
 // ## The file
 
+// The words that are put into memory, and the devices.
+fn set_placed(alloc: Global, table: &mut Table, file: &MachineFile) -> Result<(), AllocError>
+    ensures rows { IfOk result
+        (λ _. table_view table.new
+        ≡ with_rows (table_view table.old)
+        (word_list_rows file.now.words ++ device_rows file.now.ioc file.now.vidc)) }
+    ensures bound { IfOk result (λ _. All (λ w. w.1 < 2 ^ 32) file.now.words) }
+{
+    set_put_words(alloc, table, &file.words.words)?;
+    set_devices(alloc, table, file)
+}
+
 fn document(alloc: Global, file: &MachineFile) -> Result<Table, AllocError>
     ensures document { IfOk result (λ table. table_view table ≡ document_of file.now) }
     ensures bound { IfOk result (λ _. All (λ w. w.1 < 2 ^ 32) file.now.words) }
@@ -302,8 +326,7 @@ fn document(alloc: Global, file: &MachineFile) -> Result<Table, AllocError>
     set_processor(alloc, &mut table, &file.processor)?;
     set_controller(alloc, &mut table, &file.controller)?;
     set_schedule(alloc, &mut table, &file.schedule)?;
-    set_put_words(alloc, &mut table, &file.words.words)?;
-    set_devices(alloc, &mut table, file)?;
+    set_placed(alloc, &mut table, file)?;
     Ok(table)
 }
 
