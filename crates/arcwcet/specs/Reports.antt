@@ -32,6 +32,7 @@ use Rattle.explain_reports.specs.GraphReport.{IsGraphReport}
 use Rattle.explain_reports.specs.PageReport.{IsPageReport}
 use Rattle.explain_reports.specs.Verdict.{IsVerdictReport}
 use Rattle.explain_reports.specs.declared.explain.TableForm.{TableForm}
+use Rattle.follow_reports.specs.FollowEach.{IsEachReport}
 use Rattle.follow_reports.specs.FollowReport.{IsFollowRefused, IsFollowReport}
 use Rattle.follow_reports.specs.FollowVisits.{AreNotFollowed, IsFollowVisitsReport}
 use Rattle.justify_reports.specs.JustifyReport.{IsJustifyReport}
@@ -104,6 +105,11 @@ extent_of path = if path then Path else Whole
 abbrev pub IsDrawn : (html : Bool) → File → List ℕ → Extent → Profile → List ℕ → Type 0
 IsDrawn true = IsPageReport
 IsDrawn false = IsGraphReport
+
+-- a run is judged at each of its visits, or at the first alone
+abbrev pub IsFollowed : (each : Bool) → File → List ℕ → List ℕ → Profile → Bool → List ℕ → Type 0
+IsFollowed true = IsEachReport
+IsFollowed false = IsFollowReport
 
 -- the forms of a trace: lines of JSON, or else lines of text
 abbrev pub trace_shows : (json : Bool) → Front
@@ -223,7 +229,8 @@ module _ (asked : Asked) (i : Inputs) (typed : List ℕ) where
       judged i.profile (IsVerdictReport i.source i.second i.third) (IsCheckRefused i.source i.second i.third)
   report_by command.Justify = by_facts (facts_file i) (justified i asked.all)
   report_by command.Follow =
-      judged i.profile (IsFollowReport i.source i.second i.third) (IsFollowRefused i.source i.second i.third)
+      judged i.profile (IsFollowed asked.each i.source i.second i.third)
+      (IsFollowRefused i.source i.second i.third)
   report_by command.FollowVisits =
       judged i.profile (IsFollowVisitsReport i.source i.second i.third i.fourth)
       (AreNotFollowed i.source i.second i.third i.fourth)

@@ -27,7 +27,9 @@ pub use explain_reports::{
 };
 pub use fault::{FileFault, StoreFault};
 pub use files::{HostStore, MOST_INPUT_BYTES, Store, read_limited};
-pub use follow_reports::{FollowedRun, FollowedVisits, follow_report, follow_visits_report};
+pub use follow_reports::{
+    FollowedRun, FollowedVisits, follow_each_report, follow_report, follow_visits_report,
+};
 pub use handlers::{MemoryOutput, Refusal, ReportFault, Stop, StreamOutput, fault_only};
 pub use input::{Input, InputFault, StreamInput};
 pub use justify_reports::{

@@ -12,7 +12,8 @@ ghost use Rattle.explain_reports.specs.ExplainReport.{Explains};
 ghost use Rattle.explain_reports.specs.GraphReport.{IsGraphReport};
 ghost use Rattle.explain_reports.specs.PageReport.{IsPageReport};
 ghost use Rattle.explain_reports.specs.Verdict.{ExplainsVerdict};
-ghost use Rattle.follow_reports.specs.FollowReport.{FollowsRun};
+ghost use Rattle.follow_reports.specs.FollowEach.{FollowsEach};
+ghost use Rattle.follow_reports.specs.FollowReport.{FollowsRun, IsFollowRefused};
 ghost use Rattle.follow_reports.specs.FollowVisits.{FollowsVisitedRun};
 ghost use Rattle.machine_reports.specs.Machine.{ReportsRun};
 ghost use Rattle.machine_reports.specs.RunTo.{ReportsRunTo};
@@ -21,8 +22,9 @@ ghost use Rattle.response_reports.specs.RespondReport.{Responds};
 ghost use Rattle.command_line.specs.Rows.{asked_of};
 ghost use Rattle.arcwcet.specs.Facts.{facts_file};
 ghost use Rattle.arcwcet.specs.Kept.{inputs_lent};
-ghost use Rattle.arcwcet.specs.Reports.{IsDrawn, answered, bursts_of, by_facts, extent_of, fiq_asked_in};
-ghost use Rattle.arcwcet.specs.Reports.{fiq_files, fiq_source_in, form_of, justified, priced};
+ghost use Rattle.arcwcet.specs.Reports.{IsDrawn, IsFollowed, answered, bursts_of, by_facts, extent_of};
+ghost use Rattle.arcwcet.specs.Reports.{fiq_asked_in, fiq_files, fiq_source_in, form_of, judged};
+ghost use Rattle.arcwcet.specs.Reports.{justified, priced};
 ghost use Rattle.arcwcet.specs.Reports.{question_in, rate_of, report_of, trace_end, trace_shows};
 ghost use Rattle.arcwcet.specs.Reports.{vectors_report, version_line, version_report};
 ghost use Rattle.arcwcet.specs.Run.{PrintsReport};
@@ -38,7 +40,9 @@ use explain_reports::{
     CheckInputs, DrawnHandler, Explained, Extent, TableForm, explain_report, graph_report,
     page_report, print_check, verdict_report,
 };
-use follow_reports::{FollowedRun, FollowedVisits, follow_report, follow_visits_report};
+use follow_reports::{
+    FollowedRun, FollowedVisits, follow_each_report, follow_report, follow_visits_report,
+};
 use handlers::{Refusal, ReportFault};
 use justify_reports::{JustifiedHandler, justify_report};
 use known_words::Given;
@@ -492,8 +496,26 @@ fn print_given<'b, O: Output>(
     print_justified(alloc, inputs, &facts, all, out)
 }
 
+// `follow --each`, of a source, a statement and a machine file.
+fn print_each<'b, O: Output>(
+    alloc: Global,
+    inputs: Inputs<'b>,
+    out: &mut O,
+) -> Result<bool, Refusal<'b>>
+    ensures { Priced (inputs_lent inputs.entry).profile
+        (λ p. FollowsEach O.taken O.failures (file_of inputs.entry.source) inputs.entry.second.now
+        inputs.entry.third.now p out.old out.new (fault_only result)) out.old out.new (fault_only result) }
+{
+    let run = FollowedRun {
+        source: inputs.source,
+        statement: inputs.second,
+        machine: inputs.third,
+    };
+    follow_each_report(alloc, run, inputs.profile, out)
+}
+
 // `follow`, of a source, a statement and a machine file.
-fn print_followed<'b, O: Output>(
+fn print_first<'b, O: Output>(
     alloc: Global,
     inputs: Inputs<'b>,
     out: &mut O,
@@ -508,6 +530,25 @@ fn print_followed<'b, O: Output>(
         machine: inputs.third,
     };
     follow_report(alloc, run, inputs.profile, out)
+}
+
+// `follow`, of the first visit or of each.
+fn print_followed<'b, O: Output>(
+    alloc: Global,
+    inputs: Inputs<'b>,
+    each: bool,
+    out: &mut O,
+) -> Result<bool, Refusal<'b>>
+    ensures { PrintsReport O.taken O.failures
+        (judged (inputs_lent inputs.entry).profile
+        (IsFollowed each (file_of inputs.entry.source) inputs.entry.second.now inputs.entry.third.now)
+        (IsFollowRefused (file_of inputs.entry.source) inputs.entry.second.now inputs.entry.third.now)) out.old
+        out.new (fault_only result) }
+{
+    if each {
+        return print_each(alloc, inputs, out);
+    }
+    print_first(alloc, inputs, out)
 }
 
 // `follow --fiq`, of a source, both statements and a machine file.
@@ -574,7 +615,7 @@ pub(crate) fn print<'b, O: Output>(
         Command::Explain => print_explanation(alloc, job, out),
         Command::Verdict => print_verdict(alloc, inputs, out),
         Command::Justify => print_given(alloc, inputs, job.request.all, out),
-        Command::Follow => print_followed(alloc, inputs, out),
+        Command::Follow => print_followed(alloc, inputs, job.request.each, out),
         Command::FollowVisits => print_followed_visits(alloc, inputs, out),
         Command::Graph => {
             let request = job.request;

@@ -83,6 +83,10 @@ pub(crate) fn line_status<E: Output>(fault: CommandLineFault, err: &mut E) -> u8
             let _ = write_whole(err, b"error: --certificate goes with --profile alone\n");
             2
         }
+        CommandLineFault::EachBesideFiq => {
+            let _ = write_whole(err, b"error: --each goes without --fiq\n");
+            2
+        }
     }
 }
 

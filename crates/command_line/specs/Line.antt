@@ -115,7 +115,8 @@ usages =
     (profile ∷ source ∷ statement ∷ argument (codes "given") form.FileOption
     ∷ argument (codes "all") form.All ∷ [])
     ∷ usage (codes "follow") command.Follow
-    (profile ∷ source ∷ statement ∷ other (codes "fiq") form.FileOption command.FollowVisits ∷ machine ∷ [])
+    (profile ∷ source ∷ statement ∷ other (codes "fiq") form.FileOption command.FollowVisits ∷ machine
+    ∷ argument (codes "each") form.Each ∷ [])
     ∷ usage (codes "graph") command.Graph
     (profile ∷ source ∷ statement ∷ argument (codes "path") form.Path
     ∷ argument (codes "html") form.Html ∷ [])
@@ -445,13 +446,15 @@ is_import asked =
 
 -- `asm` and `import` write no image over a file that they read, the latter has an address for each,
 -- `visits` has either a number of visits or a period,
--- `respond` has all or nothing of FIQ, and beside the certificate of a verdict neither a number nor `--each`
--- nor `--first` nor `--all` is given, which would have no effect
+-- `respond` has all or nothing of FIQ, `follow` has either FIQ's statement or `--each`, and beside the
+-- certificate of a verdict neither a number nor `--each` nor `--first` nor `--all` is given, which would have
+-- no effect
 abbrev pub is_allowed_of : Command → Asked → Bool
 is_allowed_of command.Asm asked = not (list_any (λ name. bytes_eq name asked.word) asked.files)
 is_allowed_of command.Import asked = is_import asked
 is_allowed_of command.Visits asked = is_rate asked.numbers
 is_allowed_of command.Respond asked = are_fiq_options asked
+is_allowed_of command.FollowVisits asked = not asked.each
 is_allowed_of command.Verdict asked =
     not asked.each
     && (not asked.first

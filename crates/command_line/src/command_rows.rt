@@ -265,6 +265,13 @@ const EACH: ArgumentRow = ArgumentRow {
     instead: None,
 };
 
+const EACH_VISIT: ArgumentRow = ArgumentRow {
+    id: "each",
+    form: Form::Each,
+    help: "Judge each visit of the handler, and not the first alone",
+    instead: None,
+};
+
 const FIRST: ArgumentRow = ArgumentRow {
     id: "first",
     form: Form::First,
@@ -552,7 +559,7 @@ pub(crate) const COMMANDS: [CommandRow; 17] = [
         name: "follow",
         command: Command::Follow,
         summary: "Judge a machine's run through a handler by its statement",
-        arguments: &[PROFILE, SOURCE, STATEMENT, FIQ, MACHINE],
+        arguments: &[PROFILE, SOURCE, STATEMENT, FIQ, MACHINE, EACH_VISIT],
     },
     CommandRow {
         name: "graph",

@@ -103,7 +103,8 @@ pub struct Request<'a> {
     pub why: bool,
     /// Whether lines on what is being done are to be printed.
     pub progress: bool,
-    /// Whether the bound for each destination of each target alone is to be printed too.
+    /// Whether the bound for each destination of each target alone is to be printed too; or, of `follow`,
+    /// whether each visit of the handler is to be judged.
     pub each: bool,
     /// Whether the table of an explanation has the ticks by which words begin for the first time too.
     pub first: bool,
@@ -155,4 +156,6 @@ pub enum CommandLineFault {
     FiqOptions,
     /// `explain` is given a certificate, and an option that has no effect beside it.
     OptionBesideCertificate,
+    /// `follow` is given FIQ's statement and `--each`.
+    EachBesideFiq,
 }

@@ -325,7 +325,8 @@ fn is_known(dialect: Option<&str>) -> bool
 
 // Whether what is asked may be: a dialect that is named is known, the image of `asm` or `import` is no file
 // that it reads, and the latter have addresses, `visits` has a number or a period, `respond` has all or
-// nothing of FIQ, and no option that has no effect stands beside the certificate of a verdict.
+// nothing of FIQ, `follow` has either FIQ's statement or `--each`, and no option that has no effect stands
+// beside the certificate of a verdict.
 fn is_allowed(request: &Request<'_>) -> bool
     ensures { result ≡ is_allowed (asked_of request.now) }
 {
@@ -340,6 +341,7 @@ fn is_allowed_of(request: &Request<'_>) -> bool
         Command::Import => is_import(request),
         Command::Visits => is_rate(request.numbers),
         Command::Respond => are_fiq_options(request),
+        Command::FollowVisits => !request.each,
         Command::Verdict => {
             let numbers = request.numbers;
             !request.each
@@ -431,6 +433,7 @@ fn unasked(matches: &ArgMatches<'_>) -> CommandLineFault {
         Some(("import", _)) => CommandLineFault::ImportParts,
         Some(("visits", _)) => CommandLineFault::VisitsOrPeriod,
         Some(("respond", _)) => CommandLineFault::FiqOptions,
+        Some(("follow", _)) => CommandLineFault::EachBesideFiq,
         _ => CommandLineFault::SourceReplaced,
     }
 }
@@ -497,8 +500,8 @@ fn version<'a>(alloc: Global) -> Request<'a>
 /// has no address, or `--at` has several, or it would write over one; `VisitsOrPeriod` where `visits` has
 /// neither a number of visits nor a period, or both, or FIQ's wait beside a number; `FiqOptions` where
 /// `respond` has FIQ's statement without a period or beside bursts, or else an option of FIQ's;
-/// `OptionBesideCertificate` where `explain` has a certificate and an option for explanations. `Memory`: an
-/// allocation failed.
+/// `OptionBesideCertificate` where `explain` has a certificate and an option for explanations;
+/// `EachBesideFiq` where `follow` has FIQ's statement and `--each`. `Memory`: an allocation failed.
 pub fn request<'a>(alloc: Global, words: &'a [String]) -> Result<Request<'a>, CommandLineFault>
     ensures read { IfOk result (λ q. asked_in words.entry.now ≡ Some (asked_of q)) }
     ensures refused { IfErr result

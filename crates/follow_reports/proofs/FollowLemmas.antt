@@ -1,5 +1,5 @@
 -- A report on a followed run, from what is found of a source, a statement and a machine file.
-use Rattle.std.proofs.Common.{◌≡◌, ◌≢◌, ◌∙◌, ◌⊎◌, ◌++◌, ◌∷◌, [], ℕ, ◌+◌, ◌≤◌, Bool, List, append_assoc, length, take, Result, Ok, Err, sym, ap, subst}
+use Rattle.std.proofs.Common.{◌≡◌, ◌≢◌, ◌∙◌, ◌⊎◌, ◌++◌, ◌∷◌, [], ℕ, ◌+◌, ◌≤◌, Bool, List, append_assoc, drop, length, take, Result, Ok, Err, sym, ap, subst}
 use Rattle.std.specs.Prelude.{IfErr}
 use Rattle.std.proofs.lemmas.List.{length-append}
 use Rattle.bus_ticks.specs.declared.profile.Profile.{Profile}
@@ -23,11 +23,11 @@ use Rattle.numbered_walks.specs.declared.fault.WalkFault.TheVariants as walk_fau
 use Rattle.machine_file.specs.Started.{r15_in}
 use Rattle.machine_file.specs.Stated as machine_file
 use Rattle.kept_runs.specs.Judging.{IsMachineFor}
-use Rattle.kept_runs.specs.Keeping.{IsFollowed, IsKeptRun, KeepsNone, KeepsTo}
-use Rattle.kept_runs.specs.declared.following.Followed.{Followed}
-use Rattle.kept_runs.specs.declared.following.Followed.TheVariants.{Kept, Strayed}
-use Rattle.follow_reports.specs.FollowReport.{IsFollowRefused, IsFollowReport, IsFollowable, KeepsWithin, NoneKeeps, IsRunText}
-use Rattle.follow_reports.specs.FollowWork.{HasAllPlaces, IsJudgedRun, IsFollowedText}
+use Rattle.kept_runs.specs.Arriving.{NeverArrives}
+use Rattle.kept_runs.specs.Keeping.{IsKeptRun, KeepsNone, KeepsTo}
+use Rattle.follow_reports.specs.FollowReport.{IsFollowRefused, IsFollowReport, IsFollowable, IsLoneText, IsRunText}
+use Rattle.follow_reports.specs.FollowWork.{IsJudgedRun, IsTallyText}
+use Rattle.follow_reports.specs.RunVisits.{KeepsWithin, NoneKeeps}
 use Rattle.handlers.specs.Keeping.{KeepsStatement, TakesAtMost}
 use Rattle.handlers.specs.Placing.{IsPlaced, IsRunRefused}
 use Rattle.handlers.specs.Report.{BeforeOutput, HasLoops, IsAccepted, IsRefused}
@@ -50,16 +50,16 @@ module _ (words : Words) (st : Stated) (flow : Flow) (tree : Tree) (of : IsTreeO
   pub by_tree : (is : List Input) → KeepsStatement words st flow.profile flow s is → KeepsTo words st flow tree s is
   by_tree is k = record { walk = k.walk; complete = k.complete; kept = kept_there flow st.loops tree of.instances k.walk k.kept; follows = k.follows }
 
-module _ (words : Words) (st : Stated) (flow : Flow) (tree : Tree) (of : IsTreeOf flow st.loops tree) (source : File) (longest : Longest) (s : State) (inputs : List Input) where
-  at_most : RunLaw → IsGreatestCost flow st.loops longest.bound → (steps ticks : ℕ) (by_place : List Passed) (after : State)
-      → IsKeptRun words st flow tree s inputs steps ticks by_place after → ticks ≤ longest.bound
+module _ (words : Words) (st : Stated) (flow : Flow) (tree : Tree) (of : IsTreeOf flow st.loops tree) (bound : ℕ) (s : State) (inputs : List Input) where
+  at_most : RunLaw → IsGreatestCost flow st.loops bound → (steps ticks : ℕ) (by_place : List Passed) (after : State)
+      → IsKeptRun words st flow tree s inputs steps ticks by_place after → ticks ≤ bound
   at_most law greatest steps ticks by_place after k =
-      let most : TakesAtMost flow.profile longest.bound (take steps inputs) k.ran =
-      bounds_runs words flow.profile st flow longest.bound law greatest s (take steps inputs) k.ran after (states words st flow tree of s (take steps inputs) k.keeps) k.runs in
-      subst (λ (n : ℕ). n ≤ longest.bound) k.ticks_are most.ticks
+      let most : TakesAtMost flow.profile bound (take steps inputs) k.ran =
+      bounds_runs words flow.profile st flow bound law greatest s (take steps inputs) k.ran after (states words st flow tree of s (take steps inputs) k.keeps) k.runs in
+      subst (λ (n : ℕ). n ≤ bound) k.ticks_are most.ticks
 
-  abbrev within : RunLaw → IsGreatestCost flow st.loops longest.bound → (steps ticks : ℕ) (by_place : List Passed) (after : State)
-      → IsKeptRun words st flow tree s inputs steps ticks by_place after → KeepsWithin words st flow.profile flow s inputs longest.bound ticks
+  abbrev pub within : RunLaw → IsGreatestCost flow st.loops bound → (steps ticks : ℕ) (by_place : List Passed) (after : State)
+      → IsKeptRun words st flow tree s inputs steps ticks by_place after → KeepsWithin words st flow.profile flow s inputs bound ticks
   within law greatest steps ticks by_place after k = record {
     steps = steps;
     few = k.few;
@@ -71,55 +71,37 @@ module _ (words : Words) (st : Stated) (flow : Flow) (tree : Tree) (of : IsTreeO
     at_most = at_most law greatest steps ticks by_place after k;
   }
 
-  none_keeps : KeepsNone words st flow tree s inputs → NoneKeeps words st flow.profile flow s inputs
+  pub none_keeps : KeepsNone words st flow tree s inputs → NoneKeeps words st flow.profile flow s inputs
   none_keeps none steps keeps = none steps (by_tree words st flow tree of s (take steps inputs) keeps)
 
-  -- what is said of a followed run
-  pub run_text : IsWellFormed flow → StepCost → RunLaw → IsLongest flow tree longest → IsGreatestCost flow st.loops longest.bound → (after : State) (followed : Followed) (kept : Bool) (text : List ℕ)
-      → IsFollowed words st flow tree s inputs after followed → IsFollowedText source words st flow longest (address_in after.regs) followed kept text → IsRunText words st flow.profile flow s inputs source tree longest kept text
-  run_text well cost law longest_is greatest after (Kept steps ticks by_place) kept text is said =
-      subst (λ (b : Bool). IsRunText words st flow.profile flow s inputs source tree longest b text) (sym said.0)
-      (record {
-        ticks = ticks;
-        keeps = within law greatest steps ticks by_place.items after is;
-        left = said.1.left;
-        left_is = said.1.left_is;
-        passes = is.passes;
-        passes_are = is.passes_are;
-        table = said.1.table;
-        table_is =
-            let keeps = states words st flow tree of s (take steps inputs) is.keeps in
-            table_exact source words st flow tree longest s (take steps inputs) is.keeps.walk is.passes said.1.table well cost longest_is is.keeps.complete is.keeps.follows is.passes_are
-            (greatest.upper keeps.walk keeps.complete keeps.kept) (said.1.table_is is.passes is.tally_is);
-        warnings = said.1.warnings;
-        are_warnings = said.1.are_warnings is.passes is.tally_is;
-        text_is = said.1.text_is;
-      })
-  run_text well cost law longest_is greatest after (Strayed steps at why) kept text is said =
-      subst (λ (b : Bool). IsRunText words st flow.profile flow s inputs source tree longest b text) (sym said.0)
-      (record {
-        steps = steps;
-        at = at;
-        why = why;
-        after = after;
-        line = said.1.0;
-        none = none_keeps is.none;
-        strays = is;
-        line_is = said.1.1;
-        text_is = said.1.2;
-      })
+-- what is said of the one visit of a run that begins at the entry
+pub lone_text : (words : Words) (st : Stated) (flow : Flow) (tree : Tree) (of : IsTreeOf flow st.loops tree) (source : File) (longest : Longest) (s : State) (inputs : List Input)
+    → IsWellFormed flow → StepCost → RunLaw → IsLongest flow tree longest → IsGreatestCost flow st.loops longest.bound → (steps ticks : ℕ) (by_place : List Passed) (after : State) (text : List ℕ)
+    → IsKeptRun words st flow tree s inputs steps ticks by_place after → NeverArrives st.entry after (drop steps inputs)
+    → IsTallyText source words st flow longest (address_in after.regs) ticks by_place text → IsLoneText words st flow.profile flow s inputs source tree longest text
+lone_text words st flow tree of source longest s inputs well cost law longest_is greatest steps ticks by_place after text is alone said = record {
+  ticks = ticks;
+  keeps = within words st flow tree of longest.bound s inputs law greatest steps ticks by_place after is;
+  alone = alone;
+  left = said.left;
+  left_is = said.left_is;
+  passes = is.passes;
+  passes_are = is.passes_are;
+  table = said.table;
+  table_is =
+      let keeps = states words st flow tree of s (take steps inputs) is.keeps in
+      table_exact source words st flow tree longest s (take steps inputs) is.keeps.walk is.passes said.table well cost longest_is is.keeps.complete is.keeps.follows is.passes_are
+      (greatest.upper keeps.walk keeps.complete keeps.kept) (said.table_is is.passes is.tally_is);
+  warnings = said.warnings;
+  are_warnings = said.are_warnings is.passes is.tally_is;
+  text_is = said.text_is;
+}
 
 -- a text of a line and three pieces, of which two were appended to the first
 pub told_in_pieces : (line first second third two three begun text : List ℕ) → begun ≡ line → two ≡ first ++ second → three ≡ two ++ third → text ≡ begun ++ three
     → text ≡ line ++ (first ++ (second ++ third))
 told_in_pieces line first second third two three begun text begins twos threes is =
     is ∙ (λ i. begins i ++ (threes ∙ ap (λ xs. xs ++ third) twos ∙ append_assoc first second third) i)
-
--- what is said of a kept run is said of each place
-pub all_places : (words : Words) (st : Stated) (flow : Flow) (tree : Tree) (s : State) (inputs : List Input) (after : State) (followed : Followed)
-    → IsFollowed words st flow tree s inputs after followed → HasAllPlaces flow followed
-all_places words st flow tree s inputs after (Kept steps ticks by_place) is = is.tally_is.whole
-all_places words st flow tree s inputs after (Strayed steps at why) is = tt
 
 -- the machine that a file states has all its registers, and the prices of the graph
 pub machine_for : (source : File) (machine : List ℕ) (profile : Profile) (file : machine_file.Stated) (state : State) (flow : Flow) → flow.profile ≡ profile → length file.processor.registers ≡ 26

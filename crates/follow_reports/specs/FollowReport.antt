@@ -1,17 +1,16 @@
 -- Whether a machine's run keeps the statement of its handler, and where it does not.
-use Rattle.std.specs.Prelude.{◌≡◌, ℕ, ◌≤◌, Bool, true, false, List, ◌++◌, length, take, Option, Result}
+use Rattle.std.specs.Prelude.{◌≡◌, ◌⊎◌, ℕ, ◌+◌, Bool, true, false, List, ◌++◌, drop, take, Option, Result}
 use Rattle.bus_ticks.specs.declared.profile.Profile.{Profile}
 use Rattle.image.specs.Image.{Words}
 use Rattle.statement.specs.Stated.{Stated}
-use Rattle.arm2_exec.specs.Run.{Runs}
 use Rattle.arm2_exec.specs.State.{State}
 use Rattle.arm2_exec.specs.Step.{address_in}
 use Rattle.arm2_exec.specs.declared.machine.Input.{Input}
-use Rattle.arm2_exec.specs.declared.machine.Ran.{Ran}
 use Rattle.control_flow.specs.Flow.{Flow}
 use Rattle.loop_bounds.specs.Tree.{Tree}
 use Rattle.longest_walk.specs.Folded.{unfolded}
 use Rattle.longest_walk.specs.declared.folded.Longest.{Longest}
+use Rattle.kept_runs.specs.Arriving.{ArrivesAfter, NeverArrives}
 use Rattle.kept_runs.specs.Keeping.{IsStrayedRun}
 use Rattle.kept_runs.specs.Passing.{ArePasses, Pass}
 use Rattle.kept_runs.specs.declared.following.Unkept.{Unkept}
@@ -20,38 +19,24 @@ use Rattle.follow_reports.specs.Differences.{compared_at}
 use Rattle.follow_reports.specs.DifferenceText.{IsTable}
 use Rattle.follow_reports.specs.FollowText.{AreWarnings, IsLeftText, IsLineNumberAt, kept_text, strayed_text}
 use Rattle.follow_reports.specs.FollowText.{why_text}
-use Rattle.handlers.specs.Keeping.{KeepsStatement}
+use Rattle.follow_reports.specs.RunVisits.{KeepsWithin, NoneKeeps}
+use Rattle.follow_reports.specs.VisitedText.{never_text}
 use Rattle.handlers.specs.Placing.{IsFileRefused, IsLoadRefused, IsLoaded, IsRunnable}
 use Rattle.handlers.specs.Report.{IsAccepted, IsBounded, IsRefused}
 use Rattle.handlers.specs.declared.fault.ReportFault.{ReportFault}
 use Rattle.handlers.specs.declared.fault.ReportFault.TheVariants as report_fault
 use Rattle.sources.specs.File.{File}
 
--- ## Runs from a state, by inputs that may be more than the run needs
+-- ## Runs from a state at the entry, by inputs that may be more than the run needs
 
-module _ (words : Words) (stated : Stated) (profile : Profile) (flow : Flow) (state : State)
-    (inputs : List Input) where
-  -- so many of the inputs make a run that keeps the statement, in so many ticks, at most the bound
-  pub record KeepsWithin (bound ticks : ℕ) : Type 0 where
-    pub steps : ℕ
-    pub few : steps ≤ length inputs
-    pub keeps : KeepsStatement words stated profile flow state (take steps inputs)
-    pub ran : Ran
-    pub after : State
-    pub runs : Runs state (take steps inputs) ran after
-    pub ticks_are : ran.ticks ≡ ticks
-    pub at_most : ticks ≤ bound
-
-  -- no number of the inputs does
-  abbrev pub NoneKeeps : Type 0
-  NoneKeeps = (steps : ℕ) → KeepsStatement words stated profile flow state (take steps inputs) → ⊥
-
-  module _ (source : File) (tree : Tree) (longest : Longest) where
+module _ (words : Words) (stated : Stated) (profile : Profile) (flow : Flow) (source : File) (tree : Tree)
+    (longest : Longest) where
+  module _ (state : State) (inputs : List Input) (before : ℕ) where
     -- how many ticks the run takes, whether it goes on at a word of the source, where it and the greatest
     -- walk differ, and which of the words that it does an explanation warns of
     pub record IsKeptText (text : List ℕ) : Type 0 where
       pub ticks : ℕ
-      pub keeps : KeepsWithin longest.bound ticks
+      pub keeps : KeepsWithin words stated profile flow state inputs longest.bound ticks
       pub left : List ℕ
       pub left_is : IsLeftText source words (address_in keeps.after.regs) left
       pub passes : List Pass
@@ -62,22 +47,41 @@ module _ (words : Words) (stated : Stated) (profile : Profile) (flow : Flow) (st
       pub are_warnings : AreWarnings source words stated flow passes warnings
       pub text_is : text ≡ kept_text ticks longest.bound ++ (left ++ (table ++ warnings))
 
-    -- after how many steps, where and why the first one strays
+    -- after how many steps, with those before the entry, where and why the first one strays
     pub record IsStrayedText (text : List ℕ) : Type 0 where
       pub steps : ℕ
       pub at : ℕ
       pub why : Unkept
       pub after : State
       pub line : Option ℕ
-      pub none : NoneKeeps
+      pub none : NoneKeeps words stated profile flow state inputs
       pub strays : IsStrayedRun words stated flow tree state inputs steps at why after
       pub line_is : IsLineNumberAt source at line
-      pub text_is : text ≡ strayed_text steps at line (why_text stated at why)
+      pub text_is : text ≡ strayed_text (before + steps) at line (why_text stated at why)
 
     -- true exactly where some number of the inputs makes a run that keeps the statement
     abbrev pub IsRunText : Bool → List ℕ → Type 0
     IsRunText true text = IsKeptText text
     IsRunText false text = IsStrayedText text
+
+  -- ## From any state: the run is judged from where it first comes to the entry
+
+  module _ (state : State) (inputs : List Input) where
+    -- it comes there after so many steps
+    pub record IsArrivedText (kept : Bool) (text : List ℕ) : Type 0 where
+      pub before : ℕ
+      pub now : State
+      pub arrives : ArrivesAfter stated.entry state inputs before now
+      pub is_text : IsRunText now (drop before inputs) before kept text
+
+    -- it never does
+    pub record IsNeverText (kept : Bool) (text : List ℕ) : Type 0 where
+      pub never : NeverArrives stated.entry state inputs
+      pub kept_is : kept ≡ false
+      pub text_is : text ≡ never_text stated.entry
+
+    abbrev pub IsArrivalText : Bool → List ℕ → Type 0
+    IsArrivalText kept text = IsArrivedText kept text ⊎ IsNeverText kept text
 
 -- ## The report
 
@@ -88,8 +92,8 @@ pub record IsFollowReport (source : File) (statement machine : List ℕ) (profil
   pub state : State
   pub inputs : List Input
   pub loaded : IsLoaded source machine profile state inputs
-  pub is_text : IsRunText bounded.accepted.loops.graph.words bounded.accepted.stated profile
-      bounded.accepted.flow state inputs source bounded.tree bounded.longest kept text
+  pub is_text : IsArrivalText bounded.accepted.loops.graph.words bounded.accepted.stated profile
+      bounded.accepted.flow source bounded.tree bounded.longest state inputs kept text
 
 -- ## Refusals
 

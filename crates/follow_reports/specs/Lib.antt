@@ -5,4 +5,8 @@ pub mod FollowText
 pub mod FollowWork
 pub mod FollowVisits
 pub mod VisitedText
+pub mod RunVisits
+pub mod RunVisitsText
+pub mod FollowEach
 pub mod VisitedWork
+pub mod RunWork

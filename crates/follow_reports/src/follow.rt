@@ -1,15 +1,15 @@
 //! Whether a machine's run keeps the statement of its handler.
 
-ghost use Rattle.std.specs.Prelude.{◌≡◌, ◌∷◌, [], ℕ, IfErr, IfOk, Option, length};
+ghost use Rattle.std.specs.Prelude.{◌≡◌, ◌∷◌, [], false, IfErr, IfOk, length};
 ghost use Rattle.control_flow.specs.Graph.{IsFlowGraph};
 ghost use Rattle.kept_runs.specs.Judging.{IsMachineFor};
 ghost use Rattle.longest_walk.specs.Longest.{IsLongest};
 ghost use Rattle.loop_bounds.specs.Bounds.{IsGreatestCost};
 ghost use Rattle.loop_bounds.specs.Handler.{HasItsTree};
 ghost use Rattle.follow_reports.specs.FollowReport.{FollowsRun};
-ghost use Rattle.follow_reports.specs.FollowText.{IsLineNumberAt, strayed_text, why_text};
-ghost use Rattle.follow_reports.specs.FollowWork.{HasAllPlaces, IsJudgedRun, IsRefusalOf, IsReportOn};
-ghost use Rattle.follow_reports.specs.FollowWork.{IsFollowedText, IsTallyText};
+ghost use Rattle.follow_reports.specs.FollowWork.{HasAllPlaces, IsJudgedRun, IsNextText, IsRefusalOf};
+ghost use Rattle.follow_reports.specs.FollowWork.{IsReportOn, IsStrayedStep, IsTallyText};
+ghost use Rattle.follow_reports.specs.VisitedText.{never_text};
 ghost use Rattle.handlers.specs.Priced.{Priced, given};
 ghost use Rattle.handlers.specs.Refusal.{Carries, CarriesRead, CarriesReadBy, ComesAlone, fault_only};
 ghost use Rattle.handlers.specs.Refusal.{stop_fault};
@@ -19,6 +19,8 @@ ghost use Rattle.sources.specs.File.{file_of};
 
 use crate::difference_text::difference_table;
 use crate::follow_text::{kept_text, left_text, line_number_at, strayed_text, why_text};
+use crate::run_visits::{NextVisit, StrayedStep, next_visit};
+use crate::visited_text::never_text;
 use crate::warnings::warnings;
 use bus_ticks::Profile;
 use control_flow::graphs_are_well_formed;
@@ -27,7 +29,7 @@ use handlers::{
     Handler, Placed, Refusal, ReportFault, Stop, longest_of, place_image, print_or_refuse,
     profile_of, read_handler, read_source, with_source,
 };
-use kept_runs::{Followed, Passed, Unkept, follow};
+use kept_runs::Passed;
 use longest_walk::Longest;
 use machine_file::MachineFile;
 use outputs::Output;
@@ -52,13 +54,13 @@ pub(crate) struct Judged {
     pub(crate) text: Vec<u8>,
 }
 
-// A handler that was read, with its source and its greatest walk.
+/// A handler that was read, with its source and its greatest walk.
 #[derive(Clone, Copy)]
-struct Bounded<'a> {
-    source: SourceFile<'a>,
-    read: &'a Source<'a>,
-    handler: &'a Handler<'a>,
-    longest: &'a Longest,
+pub(crate) struct Bounded<'a> {
+    pub(crate) source: SourceFile<'a>,
+    pub(crate) read: &'a Source<'a>,
+    pub(crate) handler: &'a Handler<'a>,
+    pub(crate) longest: &'a Longest,
 }
 
 // The text on a run that is kept, and has gone on at the address.
@@ -94,52 +96,60 @@ fn kept_run(
     Ok(text)
 }
 
-// The text on a run whose step after so many strays.
-fn strayed_run(
+/// The answer on a run of which a step strays, after the lines on its visits before.
+pub(crate) fn strayed_run(
     alloc: Global,
     bounded: Bounded<'_>,
-    steps: u64,
-    at: u32,
-    why: Unkept,
-) -> Result<Vec<u8>, AllocError>
+    lines: &[u8],
+    strayed: StrayedStep,
+) -> Result<Judged, AllocError>
     requires { IsSource (file_of bounded.source) bounded.read.now }
     ensures { IfOk result
-        (λ text. (line : Option ℕ) × IsLineNumberAt (file_of bounded.entry.source) at line
-        × (text.items ≡ strayed_text steps at line (why_text bounded.entry.handler.now.statement at why))) }
+        (λ j. (j.kept ≡ false)
+        × IsStrayedStep (file_of bounded.entry.source) bounded.entry.handler.now.statement strayed lines.now
+        j.text.items) }
 {
+    let StrayedStep { step, at, why } = strayed;
     let line = line_number_at(alloc, bounded.read, at)?;
     let why = why_text(alloc, &bounded.handler.statement, at, why)?;
-    let text = strayed_text(alloc, u128::from(steps), at, line, why.as_str())?;
-    Ok(Vec::from_slice(alloc, text.as_bytes())?)
+    let strays = strayed_text(alloc, step, at, line, why.as_str())?;
+    let mut text = Vec::from_slice(alloc, lines)?;
+    text.extend_from_slice(strays.as_bytes())?;
+    Ok(Judged { kept: false, text })
 }
 
-// The answer on a run that was followed, after which the machine is at the address.
-fn judgement(
+/// The answer on a run that never comes to the entry. `AllocError`: an allocation failed.
+pub(crate) fn never_run(alloc: Global, entry: u32) -> Result<Judged, AllocError>
+    ensures { IfOk result (λ j. (j.kept ≡ false) × (j.text.items ≡ never_text entry)) }
+{
+    let text = never_text(alloc, entry)?;
+    Ok(Judged {
+        kept: false,
+        text: Vec::from_slice(alloc, text.as_bytes())?,
+    })
+}
+
+// The answer on what a run does first, after which the machine is at the address.
+fn first_visit(
     alloc: Global,
     bounded: Bounded<'_>,
-    after: u32,
-    followed: &Followed,
+    at: u32,
+    first: &NextVisit,
 ) -> Result<Judged, AllocError>
     requires read { IsSource (file_of bounded.source) bounded.read.now }
     requires image { bounded.handler.now.image.now ≡ bounded.read.now.image }
-    requires places { HasAllPlaces bounded.handler.now.graph followed.now }
+    requires places { HasAllPlaces bounded.handler.now.graph first.now }
     ensures { IfOk result
-        (λ j. IsFollowedText (file_of bounded.entry.source) bounded.entry.read.now.image
-        bounded.entry.handler.now.statement bounded.entry.handler.now.graph bounded.entry.longest.now
-        after followed.now j.kept j.text.items) }
+        (λ j. IsNextText (file_of bounded.entry.source) bounded.entry.read.now.image
+        bounded.entry.handler.now.statement bounded.entry.handler.now.graph bounded.entry.longest.now at
+        first.now j.kept j.text.items) }
 {
-    match followed {
-        Followed::Kept {
-            ticks,
-            by_place,
-            ..
-        } => {
-            let text = kept_run(alloc, bounded, after, *ticks, by_place)?;
+    match first {
+        NextVisit::Never => never_run(alloc, bounded.handler.statement.entry()),
+        NextVisit::Strayed(strayed) => strayed_run(alloc, bounded, &[], *strayed),
+        NextVisit::Kept(kept) => {
+            let text = kept_run(alloc, bounded, at, kept.visit.ticks, &kept.by_place)?;
             Ok(Judged { kept: true, text })
-        }
-        Followed::Strayed { steps, at, why } => {
-            let text = strayed_run(alloc, bounded, *steps, *at, *why)?;
-            Ok(Judged { kept: false, text })
         }
     }
 }
@@ -169,9 +179,9 @@ fn judged_run(
     run_law();
     step_law();
     graphs_are_well_formed(&bounded.handler.graph);
-    let followed = follow(alloc, bounded.handler, &mut placed.machine, &inputs)?;
-    let after = placed.machine.address();
-    Ok(judgement(alloc, bounded, after, &followed)?)
+    let first = next_visit(alloc, bounded.handler, &mut placed.machine, &inputs, 0)?;
+    let at = placed.machine.address();
+    Ok(first_visit(alloc, bounded, at, &first)?)
 }
 
 /// States that a machine file states all registers but R15. It does nothing.
@@ -242,18 +252,19 @@ fn read_run<'a>(
     with_source(said, judged)
 }
 
-/// Runs the machine of a source and a machine file, as `run_report` does, until it leaves the handler, and
-/// judges the run by the handler's statement. The file's steps are the most that it makes. The prices are
-/// those of a cycle profile's file, or of the first profile.
+/// Runs the machine of a source and a machine file, as `run_report` does, and judges the run, from where it
+/// first comes to the handler's entry until it leaves the handler, by the handler's statement. The file's
+/// steps are the most that it makes. The prices are those of a cycle profile's file, or of the first profile.
 ///
-/// `true` exactly where the run keeps the statement: its steps, some number of the file's, are a walk from
-/// the entry to Exit that keeps the loop bounds. Then its ticks are at most the bound of `bound_report`, and
-/// the first line that is written says how many they are, and how much less; where it goes on at a word of
-/// the source, a second line says at which. A table follows of the words at which the run and a greatest walk
-/// differ, in how often they pass or in the ticks that they take there; nothing follows where they nowhere
-/// differ. Then come those words of which `explain_report` warns, as they count as returns or leave the
-/// handler, and which the run does. Else the line says which step is the first that does not keep it, by its
-/// number from 0, its address and its line of the source, and why.
+/// `true` exactly where the run keeps the statement: from the entry its steps, some number of the file's, are
+/// a walk to Exit that keeps the loop bounds. Then its ticks from there are at most the bound of
+/// `bound_report`, and the first line that is written says how many they are, and how much less; where it goes
+/// on at a word of the source, a second line says at which. A table follows of the words at which the run and
+/// a greatest walk differ, in how often they pass or in the ticks that they take there; nothing follows where
+/// they nowhere differ. Then come those words of which `explain_report` warns, as they count as returns or
+/// leave the handler, and which the run does. Else the line says which step is the first that does not keep
+/// it, by its number from 0 from the machine file's start on, its address and its line of the source, and why,
+/// or that the run never comes to the entry.
 ///
 /// # Errors
 ///

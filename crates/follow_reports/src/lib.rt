@@ -5,10 +5,14 @@
 mod difference_text;
 mod differences;
 mod follow;
+mod follow_each;
 mod follow_text;
 mod follow_visits;
+mod run_visits;
+mod run_visits_text;
 mod visited_text;
 mod warnings;
 
 pub use follow::{FollowedRun, follow_report};
+pub use follow_each::follow_each_report;
 pub use follow_visits::{FollowedVisits, follow_visits_report};

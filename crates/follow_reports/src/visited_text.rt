@@ -9,7 +9,8 @@ use kept_runs::VisitUnkept;
 use statement::Statement;
 use std::alloc::{AllocError, Global};
 
-fn visits_text(alloc: Global, visits: u64) -> Result<String, AllocError>
+/// How many visits there are. `AllocError`: an allocation failed.
+pub(crate) fn visits_text(alloc: Global, visits: u64) -> Result<String, AllocError>
     ensures { IfOk result (λ text. string_bytes text ≡ visits_text visits) }
 {
     if visits == 1 {

@@ -14,7 +14,6 @@ use Rattle.bound_reports.specs.VisitsReport.{AreAccepted, AreRefused, IsVisitsRe
 use Rattle.explain_reports.specs.Check.{IsAnswer, IsCheckRefused, IsCheckable}
 use Rattle.explain_reports.specs.ExplainReport.{IsExplainReport}
 use Rattle.explain_reports.specs.Verdict.{IsVerdictReport}
-use Rattle.follow_reports.specs.FollowReport.{IsFollowRefused, IsFollowReport, IsFollowable}
 use Rattle.follow_reports.specs.FollowVisits.{AreFollowable, AreNotFollowed, IsFollowVisitsReport}
 use Rattle.command_line.specs.Rows.{asked_of}
 use Rattle.response_reports.specs.RespondReport.{IsAnswerable, IsRespondRefused, IsRespondReport}
@@ -189,10 +188,8 @@ returns-in-Justify g c =
 pub returns-in-Follow : goal.returns-in-Follow
 unfolding report_by
 returns-in-Follow g c =
-    let i = inputs_lent c.args.job.inputs in
     rw (c.in-Follow.is)
-    (answered_judged g.O.Output.taken g.O.Output.failures c.args.out.now c.print_followed.new.out i.profile (IsFollowReport i.source i.second i.third) (IsFollowable i.source i.second i.third) (IsFollowRefused i.source i.second i.third)
-    (fault_only c.print_followed.result) c.print_followed.ensures)
+    c.print_followed.ensures
 
 pub returns-in-FollowVisits : goal.returns-in-FollowVisits
 unfolding report_by
