@@ -199,6 +199,7 @@ pub(crate) const CALLS: &[(&str, Call)] = &[
     ("trace_report", Call::Report(Report::Trace, ROOM)),
     ("debug_report", Call::Report(Report::Debug, ROOM)),
     ("follow_report", Call::Report(Report::Follow, ROOM)),
+    ("follow_each_report", Call::Report(Report::FollowEach, ROOM)),
     (
         "follow_visits_report",
         Call::Report(Report::FollowVisits, ROOM),

@@ -294,6 +294,7 @@ pub(crate) enum Report {
     Trace,
     Debug,
     Follow,
+    FollowEach,
     FollowVisits,
     Bound,
     Check,
@@ -339,6 +340,7 @@ impl Report {
             Report::Trace => TRACED,
             Report::Debug => ANSWERED,
             Report::Follow => FOLLOWED,
+            Report::FollowEach => FOLLOWED_EACH,
             Report::FollowVisits => FOLLOWED_VISITS,
             Report::Bound => nested_countdown::CERTIFICATE,
             Report::Check => b"yes\n",
@@ -355,8 +357,11 @@ impl Report {
 
     fn write(self, alloc: Global, out: &mut MemoryOutput) -> Result<bool, ReportFault> {
         match self {
-            Report::Run | Report::Trace | Report::Follow | Report::FollowVisits =>
-                self.write_of_machine(alloc, out),
+            Report::Run
+            | Report::Trace
+            | Report::Follow
+            | Report::FollowEach
+            | Report::FollowVisits => self.write_of_machine(alloc, out),
             Report::Check | Report::Explain => self.write_of_bound(alloc, out),
             Report::Respond => write_response(alloc, out),
             Report::Justify => fault_only(justify_report(alloc, JUSTIFIED_HANDLER, None, out)),
@@ -396,6 +401,7 @@ impl Report {
         match self {
             Report::Trace => trace_report(alloc, source, machine, None, out),
             Report::Follow => fault_only(follow_report(alloc, FOLLOWED_RUN, None, out)),
+            Report::FollowEach => fault_only(follow_each_report(alloc, FOLLOWED_RUN, None, out)),
             Report::FollowVisits => fault_only(follow_visits_report(alloc, VISITED_RUN, None, out)),
             _ => run_report(alloc, source, machine, None, out),
         }
