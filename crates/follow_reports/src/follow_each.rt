@@ -17,7 +17,7 @@ ghost use Rattle.sources.specs.File.{file_of};
 
 use crate::follow::{Bounded, FollowedRun, Judged, never_run, states_registers, strayed_run};
 use crate::run_visits::{HandlerVisit, Later, later_visits};
-use crate::run_visits_text::{all_visits, extremes, visit_lines};
+use crate::run_visits_text::{all_visits, least_and_greatest, visit_lines};
 use bus_ticks::Profile;
 use handlers::{
     Handler, Placed, Refusal, ReportFault, Stop, longest_of, place_image, print_or_refuse,
@@ -40,7 +40,7 @@ fn all_kept(
     match visits {
         [] => never_run(alloc, bounded.handler.statement.entry()),
         [first, later @ ..] => {
-            let found = extremes(*first, later);
+            let found = least_and_greatest(*first, later);
             let text = all_visits(alloc, bounded.longest.bound, visits, found)?;
             Ok(Judged { kept: true, text })
         }

@@ -46,7 +46,7 @@ pub(crate) fn visit_lines(
 }
 
 /// The least and the greatest ticks of the first visit and the others.
-pub(crate) fn extremes(first: HandlerVisit, later: &[HandlerVisit]) -> Extremes
+pub(crate) fn least_and_greatest(first: HandlerVisit, later: &[HandlerVisit]) -> Extremes
     ensures { AreExtremes (first ∷ later.now) result.least result.greatest }
 {
     let mut found = Extremes {
