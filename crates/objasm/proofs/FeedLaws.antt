@@ -608,6 +608,7 @@ IsSound (Ok r) = Whole r.0.lines × Inside r.1
 IsSound (Err fault) = Unit {0}
 
 loaded_sound : (m : Meanings) (n : ℕ) (p : Pool) (l : Load) → IsLoadInside l → Whole p.lines → IsSound (loaded m n p l)
+unfolding is_in_line
 loaded_sound m n p l h k = by_literal (loaded_literal m l.value) (literal_read m l.value h.value)
   where
     by_literal : (r : Result Literal LineFault) → ReadInside r → IsSound (mapped (load_as m n p l) r)

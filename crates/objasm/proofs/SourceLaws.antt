@@ -8,12 +8,12 @@ use Rattle.objasm.specs.declared.source.DialectFault.{DialectFault}
 use Rattle.objasm.specs.declared.source.DialectFault.TheVariants as dialect
 use Rattle.objasm.specs.declared.maps.Pass.{Pass}
 use Rattle.objasm.specs.declared.source.PlainSource.{PlainSource}
-use Rattle.objasm.specs.Conditions.{Conditions, all_closed}
-use Rattle.objasm.specs.Names.{Meanings, Told, mapped}
+use Rattle.objasm.specs.Conditions.{Conditions, all_closed, conditions_after, is_hidden}
+use Rattle.objasm.specs.Names.{Meanings, Told, and_then, mapped}
 use Rattle.objasm.specs.Literals.{Pool, line_text, no_pool}
 use Rattle.objasm.specs.Parts.{Part}
-use Rattle.objasm.specs.Source.{FaultedAt, Flow, Given, Plain, Shown, State, assembled_line, at_line, end_given, ends, fault_at, given_if, is_ltorg_line, line_settled, line_shown, lines_behind, no_lines, nothing_waits}
-use Rattle.objasm.specs.Source.{plain_lines, plain_of, pool_lines, settings, shown, state_in, with_conditions, with_lines}
+use Rattle.objasm.specs.Source.{FaultedAt, Flow, Given, Plain, Shown, State, assembled_line, at_line, end_given, ends, fault_at, given_if, is_ltorg_line, line_given, line_settled, line_shown, lines_behind, no_lines, nothing_waits}
+use Rattle.objasm.specs.Source.{plain_lines, plain_of, pool_lines, settings, shown, state_in, taken_line, with_conditions, with_lines}
 use Rattle.objasm.specs.declared.faults.LineFault.{LineFault}
 use Rattle.objasm.specs.declared.faults.LineFault.TheVariants.{Memory}
 
@@ -129,12 +129,13 @@ given_behind : (gives : Bool) (n : ℕ) (p : Pool) (done t : Plain) → given_if
 given_behind true n p done t = ap (λ (x : Plain). (no_pool, x)) (sym (behind_both done t (pool_lines n p)))
 given_behind false n p done t = refl
 
-pub assembled : (m : Meanings) (n : ℕ) (p mid new : Pool) (ps : List Part) (line text : List ℕ) (done shown_there out : Plain) (gives : Bool) → line_text m n p ps ≡ Ok (mid, text)
-    → shown_there ≡ with_lines done (shown n text line) → gives ≡ is_ltorg_line ps → (new, out) ≡ given_if gives n mid shown_there → lines_behind done (assembled_line m n p ps line) ≡ Ok (new, out)
-assembled m n p mid new ps line text done shown_there out gives is put by given =
+pub assembled : (m : Meanings) (n : ℕ) (p mid new : Pool) (ps : List Part) (line text put_text : List ℕ) (done shown_there out : Plain) (gives : Bool) → line_text m n p ps ≡ Ok (mid, text)
+    → put_text ≡ text → shown_there ≡ with_lines done (shown n put_text line) → gives ≡ is_ltorg_line ps → (new, out) ≡ given_if gives n mid shown_there → lines_behind done (assembled_line m n p ps line) ≡ Ok (new, out)
+assembled m n p mid new ps line text put_text done shown_there out gives is same put by given =
     ap (λ (r : Result (Pool × List ℕ) LineFault). lines_behind done (mapped (λ q. given_if (is_ltorg_line ps) n q.0 (shown n q.1 line)) r)) is
     ∙ ap (λ (x : Pool × Plain). Ok x)
-    (sym (given_behind (is_ltorg_line ps) n mid done (shown n text line)) ∙ ap (λ (x : Plain). given_if (is_ltorg_line ps) n mid x) (sym put)
+    (sym (given_behind (is_ltorg_line ps) n mid done (shown n text line)) ∙ ap (λ (x : List ℕ). given_if (is_ltorg_line ps) n mid (with_lines done (shown n x line))) (sym same)
+    ∙ ap (λ (x : Plain). given_if (is_ltorg_line ps) n mid x) (sym put)
     ∙ ap (λ (b : Bool). given_if b n mid shown_there) (sym by) ∙ sym given)
 
 pub ended : (n : ℕ) (p new : Pool) (line : List ℕ) (done mid out : Plain) → mid ≡ with_lines done (shown n [] line) → (new, out) ≡ given_if true n p mid → lines_behind done (end_given n p line) ≡ Ok (new, out)
@@ -144,6 +145,35 @@ ended n p new line done mid out put given =
 pub behind_conditions : (cs : Conditions) (p : Pool) (done out : Plain) (r : Given) → lines_behind done r ≡ Ok (p, out) → lines_behind done (with_conditions cs r) ≡ Ok (state_in cs p, out)
 behind_conditions cs p done out (Ok g) is = ap (λ (x : Pool × Plain). Ok (state_in cs x.0, x.1)) (same_Ok (g.0, with_lines done g.1) (p, out) is)
 behind_conditions cs p done out (Err fault) is = absurd cc
+
+pub taken : (m : Meanings) (s : State) (n : ℕ) (ps : List Part) (line : List ℕ) (done out : Plain) (next : Conditions) (p : Pool) (hidden : Bool) → hidden ≡ is_hidden s.conditions ps
+    → conditions_after m n s.conditions ps ≡ Ok next → lines_behind done (line_given hidden m n s.pool ps line) ≡ Ok (p, out) → lines_behind done (taken_line m s n ps line) ≡ Ok (state_in next p, out)
+taken m s n ps line done out next p hidden by step put =
+    ap (λ (r : Result Conditions LineFault). lines_behind done (and_then (λ cs. with_conditions cs (line_given (is_hidden s.conditions ps) m n s.pool ps line)) r)) step
+    ∙ ap (λ (b : Bool). lines_behind done (with_conditions next (line_given b m n s.pool ps line))) (sym by)
+    ∙ behind_conditions next p done out (line_given hidden m n s.pool ps line) put
+
+pub taken_ok : {A : Type 0} (r : Result A LineFault) (m : Meanings) (s : State) (n : ℕ) (ps asked stepped given : List Part) (line : List ℕ) (done out : Plain) (next : Conditions) (p : Pool) → asked ≡ ps → stepped ≡ ps → given ≡ ps
+    → false ≡ is_hidden s.conditions asked → conditions_after m n s.conditions stepped ≡ Ok next → OnOk r (lines_behind done (assembled_line m n s.pool given line) ≡ Ok (p, out))
+    → OnOk r (lines_behind done (taken_line m s n ps line) ≡ Ok (state_in next p, out))
+taken_ok (Ok a) m s n ps asked stepped given line done out next p same_asked same_stepped same_given shows step put =
+    taken m s n ps line done out next p false (shows ∙ ap (is_hidden s.conditions) same_asked)
+    (ap (λ (x : List Part). conditions_after m n s.conditions x) (sym same_stepped) ∙ step)
+    (ap (λ (x : List Part). lines_behind done (assembled_line m n s.pool x line)) (sym same_given) ∙ put)
+taken_ok (Err fault) m s n ps asked stepped given line done out next p same_asked same_stepped same_given shows step put = tt
+
+pub step_told : (m : Meanings) (s : State) (n : ℕ) (ps : List Part) (line : List ℕ) (fault : LineFault) → Told fault (conditions_after m n s.conditions ps) → Told fault (taken_line m s n ps line)
+step_told m s n ps line fault (inl e) = inl e
+step_told m s n ps line fault (inr e) = inr (ap (λ (r : Result Conditions LineFault). and_then (λ cs. with_conditions cs (line_given (is_hidden s.conditions ps) m n s.pool ps line)) r) e)
+
+pub taken_told : (m : Meanings) (s : State) (n : ℕ) (ps : List Part) (line : List ℕ) (fault : LineFault) (next : Conditions) (hidden : Bool) → hidden ≡ is_hidden s.conditions ps
+    → conditions_after m n s.conditions ps ≡ Ok next → Told fault (line_given hidden m n s.pool ps line) → Told fault (taken_line m s n ps line)
+taken_told m s n ps line fault next hidden by step (inl e) = inl e
+taken_told m s n ps line fault next hidden by step (inr e) =
+    inr
+    (ap (λ (r : Result Conditions LineFault). and_then (λ cs. with_conditions cs (line_given (is_hidden s.conditions ps) m n s.pool ps line)) r) step
+    ∙ ap (λ (b : Bool). with_conditions next (line_given b m n s.pool ps line)) (sym by)
+    ∙ ap (λ (r : Given). with_conditions next r) e)
 
 -- ## The numbers of lines of a text
 
@@ -156,3 +186,13 @@ numbers_go n old new rest line after whole is put before =
 pub numbers_end : (n : ℕ) (old : List ℕ) (rest : List ℕ) (whole : List ℕ) → lines_of rest ≡ [] → old ++ map (λ _. n) (lines_of rest) ≡ whole → old ≡ whole
 numbers_end n old rest whole is before =
     sym (append-nil old) ∙ ap (λ (ls : List (List ℕ)). old ++ map (λ _. n) ls) (sym is) ∙ before
+
+abbrev pub lines_in : (text origins : List ℕ) → Plain
+lines_in text origins = record { text = text; origins = origins }
+
+pub pool_put : {A E : Type 0} (r : Result A E) (n : ℕ) (p : Pool) (old : Plain) (text origins put numbered : List ℕ) → put ≡ p.lines → numbered ≡ p.lines → text ≡ old.text ++ put
+    → OnOk r (origins ≡ old.origins ++ map (λ _. n) (lines_of numbered)) → OnOk r (lines_in text origins ≡ with_lines old (pool_lines n p))
+pool_put (Ok a) n p old text origins put numbered same_put same_numbered is numbers =
+    ap (λ (x : List ℕ). lines_in x origins) (is ∙ ap (λ (x : List ℕ). old.text ++ x) same_put)
+    ∙ ap (λ (x : List ℕ). lines_in (old.text ++ p.lines) x) (numbers ∙ ap (λ (x : List ℕ). old.origins ++ map (λ _. n) (lines_of x)) same_numbered)
+pool_put (Err fault) n p old text origins put numbered same_put same_numbered is numbers = tt

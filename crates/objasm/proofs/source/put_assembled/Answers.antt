@@ -8,5 +8,5 @@ use Rattle.objasm.proofs.source.put_assembled.Goals as goal
 
 pub returns-clause-ok : goal.returns-clause-ok
 returns-clause-ok c =
-    assembled (meanings_of c.args.names.now) c.args.place.number (pool_of c.args.out.now.pool) _ _ (map part_of c.args.parts.now) c.args.place.line.now _ (plain_of c.args.out.now.plain) _ _ _
-    c.in_ok-text.ensures.ok c.in_ok-put_shown_line.ensures c.is_ltorg_line.ensures c.in_ok-give_if.ensures
+    assembled (meanings_of c.args.names.now) c.args.place.number (pool_of c.args.out.now.pool) _ _ (map part_of c.args.parts.now) c.args.place.line.now _ _ (plain_of c.args.out.now.plain) _ _ _
+    c.in_ok-text.ensures.ok c.deref.ensures.value c.in_ok-put_shown_line.ensures c.is_ltorg_line.ensures c.in_ok-give_if.ensures
