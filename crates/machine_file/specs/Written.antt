@@ -118,14 +118,21 @@ ioc_rows s =
     byte_rows s ++ timer_rows (codes "timer_0") (codes "count_0") s.timer_0
     ++ timer_rows (codes "timer_1") (codes "count_1") s.timer_1
 
-abbrev pub vidc_rows : VidcSetting → List Row
-vidc_rows s =
+abbrev pub cycle_rows : VidcSetting → List Row
+cycle_rows s =
     (codes "horizontal_cycle", option_map number s.horizontal_cycle)
     ∷ (codes "vertical_cycle", option_map number s.vertical_cycle)
-    ∷ (codes "display_end", unless_zero s.display_end)
+    ∷ []
+
+abbrev pub display_rows : VidcSetting → List Row
+display_rows s =
+    (codes "display_end", unless_zero s.display_end)
     ∷ (codes "pixel_rate", unless_zero s.pixel_rate)
     ∷ (codes "ticks", unless_zero s.ticks)
     ∷ []
+
+abbrev pub vidc_rows : VidcSetting → List Row
+vidc_rows s = cycle_rows s ++ display_rows s
 
 -- ## The file
 

@@ -6,11 +6,11 @@ ghost use Rattle.toml.specs.Text.{IsDocumentText};
 ghost use Rattle.toml.specs.View.{table_view, view};
 ghost use Rattle.machine_file.specs.MachineFile.{IsMachineFile};
 ghost use Rattle.machine_file.specs.MachineRules.{kilobytes};
-ghost use Rattle.machine_file.specs.Written.{byte_rows, controller_rows, device_rows, document_of, ioc_rows};
-ghost use Rattle.machine_file.specs.Written.{letter_if, letters_of, mode_name, page_data, processor_rows};
-ghost use Rattle.machine_file.specs.Written.{register_row, register_table, schedule_rows, table_of};
-ghost use Rattle.machine_file.specs.Written.{timer_rows, vidc_rows, with_key, with_rows, word_data};
-ghost use Rattle.machine_file.specs.Written.{word_list_rows};
+ghost use Rattle.machine_file.specs.Written.{byte_rows, controller_rows, cycle_rows, device_rows};
+ghost use Rattle.machine_file.specs.Written.{display_rows, document_of, ioc_rows, letter_if, letters_of};
+ghost use Rattle.machine_file.specs.Written.{mode_name, page_data, processor_rows, register_row};
+ghost use Rattle.machine_file.specs.Written.{register_table, schedule_rows, table_of, timer_rows, vidc_rows};
+ghost use Rattle.machine_file.specs.Written.{with_key, with_rows, word_data, word_list_rows};
 
 use crate::events::Schedule;
 use crate::flags::PsrFlags;
@@ -271,18 +271,34 @@ fn rate_in(rate: &RateBits) -> u32
     rate.bits
 }
 
+fn set_cycles(alloc: Global, table: &mut Table, vidc: &VidcSetting) -> Result<(), AllocError>
+    ensures { IfOk result
+        (λ _. table_view table.new
+        ≡ with_rows (table_view table.old) (cycle_rows vidc.now)) }
+{
+    let horizontal = some_number(value_of(&vidc.horizontal_cycle));
+    set_optional(alloc, table, "horizontal_cycle", horizontal)?;
+    let vertical = some_number(value_of(&vidc.vertical_cycle));
+    set_optional(alloc, table, "vertical_cycle", vertical)
+}
+
+fn set_display(alloc: Global, table: &mut Table, vidc: &VidcSetting) -> Result<(), AllocError>
+    ensures { IfOk result
+        (λ _. table_view table.new
+        ≡ with_rows (table_view table.old) (display_rows vidc.now)) }
+{
+    set_optional(alloc, table, "display_end", unless_zero(value_in(&vidc.display_end)))?;
+    set_optional(alloc, table, "pixel_rate", unless_zero(rate_in(&vidc.pixel_rate)))?;
+    set_optional(alloc, table, "ticks", unless_zero(vidc.ticks))
+}
+
 fn set_vidc_rows(alloc: Global, table: &mut Table, vidc: &VidcSetting) -> Result<(), AllocError>
     ensures { IfOk result
         (λ _. table_view table.new
         ≡ with_rows (table_view table.old) (vidc_rows vidc.now)) }
 {
-    let horizontal = some_number(value_of(&vidc.horizontal_cycle));
-    set_optional(alloc, table, "horizontal_cycle", horizontal)?;
-    let vertical = some_number(value_of(&vidc.vertical_cycle));
-    set_optional(alloc, table, "vertical_cycle", vertical)?;
-    set_optional(alloc, table, "display_end", unless_zero(value_in(&vidc.display_end)))?;
-    set_optional(alloc, table, "pixel_rate", unless_zero(rate_in(&vidc.pixel_rate)))?;
-    set_optional(alloc, table, "ticks", unless_zero(vidc.ticks))
+    set_cycles(alloc, table, vidc)?;
+    set_display(alloc, table, vidc)
 }
 
 fn vidc_table(alloc: Global, vidc: &VidcSetting) -> Result<Table, AllocError>
