@@ -1,5 +1,3 @@
-use Rattle.std.proofs.Common.{◌≡◌, ◌∙◌, IfErr}
-use Rattle.objasm.specs.Source.{FaultedAt}
 use Rattle.sources.proofs.OriginLaws.{all_put, at_first, fewer, one_more, one_refused, refused_as}
 use Rattle.sources.proofs.origins.gathered.Goals as goal
 

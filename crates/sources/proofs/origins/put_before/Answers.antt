@@ -1,4 +1,4 @@
-use Rattle.std.proofs.Common.{◌≡◌, ◌∙◌, ℕ, Err, ap, map, sym}
+use Rattle.std.proofs.Common.{◌∙◌, ℕ, Err, ap, map, sym}
 use Rattle.std.proofs.lemmas.Bool.{eq-eqb}
 use Rattle.objasm.specs.declared.faults.LineFault.TheVariants.{Scattered}
 use Rattle.std.proofs.lemmas.List.{map-append}

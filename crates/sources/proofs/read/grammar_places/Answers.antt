@@ -1,4 +1,4 @@
-use Rattle.std.proofs.Common.{◌≡◌, ◌∙◌, ap, sym}
+use Rattle.std.proofs.Common.{◌∙◌, ap, sym}
 use Rattle.sources.specs.Origins.{stretches_of}
 use Rattle.sources.proofs.OriginLaws.{stretches_are}
 use Rattle.sources.proofs.read.grammar_places.Goals as goal

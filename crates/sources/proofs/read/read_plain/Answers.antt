@@ -1,4 +1,4 @@
-use Rattle.std.proofs.Common.{◌≡◌, ◌∙◌, List, ap, refl, subst, sym}
+use Rattle.std.proofs.Common.{◌∙◌, List, ap, refl, subst, sym}
 use Rattle.image.specs.Labels.{address_of}
 use Rattle.sources.specs.Dialect.{places_by, plain_view}
 use Rattle.sources.specs.File.{file_of}
