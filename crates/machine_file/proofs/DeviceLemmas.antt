@@ -1,5 +1,5 @@
 -- What is read of IOC and VIDC, against what they state and their faults.
-use Rattle.std.proofs.Common.{◌≡◌, ℕ, ℤ, pos, ◌-◌, ◌^◌, ◌⊎◌, List, codes, Option, Some, None, Ok, IsSomeAnd, inl, inr, refl}
+use Rattle.std.proofs.Common.{◌≡◌, ℕ, ℤ, pos, ◌-◌, ◌^◌, ◌⊎◌, List, codes, Option, Some, None, IsSomeAnd, inl, inr, refl}
 use Rattle.std.specs.Prelude.{IsTrue}
 use Rattle.toml.specs.Data.{Data, Members, as_integer, get_member}
 use Rattle.toml_reading.specs.Lowest.{AtKey, AtKeyOr, IsNumber}
@@ -14,7 +14,6 @@ use Rattle.machine_file.specs.MachineRules.{AreRequests, IsIoc, IsVidc, StatesTi
 use Rattle.machine_file.specs.Names.{ioc_keys, vidc_keys}
 use Rattle.machine_file.specs.Stated.{IocSetting, VidcSetting, no_ioc, no_vidc}
 use Rattle.machine_file.specs.Words.{HasNumber, MayHaveNumber, number_if, some_number_at}
-use Rattle.machine_file.specs.declared.ioc_settings.TimerSetting.{TimerSetting}
 use Rattle.machine_file.specs.declared.machine_faults.MachineFileFault.{MachineFileFault}
 use Rattle.machine_file.specs.declared.machine_faults.MachineFileFault.TheVariants.{OutOfRange}
 use Rattle.machine_file.proofs.KeyFaults.{IocFault, IocFaults, RequestsFault, UpToAt, UpToFault, VidcFault, VidcFaults}

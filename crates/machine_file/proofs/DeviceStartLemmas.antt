@@ -1,5 +1,5 @@
 -- IOC and VIDC as they are after writes to their registers.
-use Rattle.std.proofs.Common.{◌≡◌, ℕ, ◌+◌, ◌*◌, ◌/◌, ◌%◌, ◌<◌, ◌≤◌, ◌==◌, Bool, true, false, if◌then◌else◌, Option, Some, None, refl, sym, ap, ◌∙◌, arith}
+use Rattle.std.proofs.Common.{◌≡◌, ℕ, ◌+◌, ◌*◌, ◌/◌, ◌%◌, ◌<◌, ◌≤◌, ◌==◌, Bool, true, false, if◌then◌else◌, Option, Some, None, refl, ap, arith}
 use Rattle.ioc.specs.Interrupts.{Controller, advanced, fresh, has}
 use Rattle.ioc.specs.Registers.{on_timer_0, on_timer_1, write_of}
 use Rattle.vidc.specs.Video.{Video, rate_of, value_of, written}

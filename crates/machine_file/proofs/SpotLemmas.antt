@@ -1,6 +1,6 @@
 -- A machine file's document has a fault exactly where some spot has it.
 use Rattle.std.proofs.Common.{◌≡◌, ℕ, ◌≤◌, ◌⊎◌, ◌↔◌, true, false, List, [], Option, Some, None, IsSomeAnd, MatchOption, Any, inl, inr, refl, sym}
-use Rattle.std.specs.Prelude.{⊤, codes, unwrap_or}
+use Rattle.std.specs.Prelude.{⊤, unwrap_or}
 use Rattle.std.specs.Borrow.{Bor}
 use Rattle.std.specs.List.{slice_get}
 use Rattle.std.specs.Option.{option_and_then}

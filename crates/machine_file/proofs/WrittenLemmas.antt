@@ -448,9 +448,19 @@ some_number_depth (Some n) = omega arith
 
 ioc_depth : (s : IocSetting) → optional_depth (table_value (table_of (ioc_rows s))) ≤ 1
 ioc_depth s =
-    table_value_depth 0 (table_of (ioc_rows s)) (depth_of_table 0 (ioc_rows s)
-    (zero_depth s.mask_a, (zero_depth s.mask_b, (zero_depth s.mask_fiq, (zero_depth s.requests_a,
-    (zero_depth s.timer_0.latch, (some_number_depth s.timer_0.count, (zero_depth s.timer_1.latch, (some_number_depth s.timer_1.count, tt)))))))))
+    table_value_depth 0 (table_of (ioc_rows s)) (depth_of_table 0 (ioc_rows s) (
+      zero_depth s.mask_a,
+      (
+        zero_depth s.mask_b,
+        (
+          zero_depth s.mask_fiq,
+          (
+            zero_depth s.requests_a,
+            (zero_depth s.timer_0.latch, (some_number_depth s.timer_0.count, (zero_depth s.timer_1.latch, (some_number_depth s.timer_1.count, tt)))),
+          ),
+        ),
+      ),
+    ))
 
 vidc_depth : (s : VidcSetting) → optional_depth (table_value (table_of (vidc_rows s))) ≤ 1
 vidc_depth s =

@@ -77,11 +77,8 @@ fn is_other_kind(takes: Takes, value: &Value) -> bool
     ensures { result ≡ is_other_kind takes (view value.now) }
 {
     match takes {
-        Takes::UpTo(_)
-        | Takes::Address
-        | Takes::PutAddress
-        | Takes::Size
-        | Takes::LatchedBits => value.as_integer().is_none(),
+        Takes::UpTo(_) | Takes::Address | Takes::PutAddress | Takes::Size | Takes::LatchedBits =>
+            value.as_integer().is_none(),
         Takes::ModeName => names_no_mode(value),
         Takes::FlagLetters => has_other_letters(value),
         Takes::LineNames => name_no_lines(value),

@@ -12,7 +12,9 @@ use crate::flags::is_single;
 use crate::machine_faults::MachineFileFault;
 use crate::pages::size_in;
 use crate::repeats::{is_set, number_repeats};
-use crate::spots::{EntryNumber, MachineList, MachineSpot, MachineTable, Part, list_key, table_key};
+use crate::spots::{
+    EntryNumber, MachineList, MachineSpot, MachineTable, Part, list_key, table_key,
+};
 use memc::PHYSICAL_PAGES;
 use std::alloc::{AllocError, Global};
 use toml::{Table, Value};

@@ -228,8 +228,18 @@ fn set_bytes(alloc: Global, table: &mut Table, ioc: &IocSetting) -> Result<(), A
 {
     set_optional(alloc, table, "mask_a", unless_zero(u32::from(ioc.mask_a)))?;
     set_optional(alloc, table, "mask_b", unless_zero(u32::from(ioc.mask_b)))?;
-    set_optional(alloc, table, "mask_fiq", unless_zero(u32::from(ioc.mask_fiq)))?;
-    set_optional(alloc, table, "requests_a", unless_zero(u32::from(ioc.requests_a.bits)))
+    set_optional(
+        alloc,
+        table,
+        "mask_fiq",
+        unless_zero(u32::from(ioc.mask_fiq)),
+    )?;
+    set_optional(
+        alloc,
+        table,
+        "requests_a",
+        unless_zero(u32::from(ioc.requests_a.bits)),
+    )
 }
 
 fn set_ioc_rows(alloc: Global, table: &mut Table, ioc: &IocSetting) -> Result<(), AllocError>
@@ -287,8 +297,18 @@ fn set_display(alloc: Global, table: &mut Table, vidc: &VidcSetting) -> Result<(
         (λ _. table_view table.new
         ≡ with_rows (table_view table.old) (display_rows vidc.now)) }
 {
-    set_optional(alloc, table, "display_end", unless_zero(value_in(&vidc.display_end)))?;
-    set_optional(alloc, table, "pixel_rate", unless_zero(rate_in(&vidc.pixel_rate)))?;
+    set_optional(
+        alloc,
+        table,
+        "display_end",
+        unless_zero(value_in(&vidc.display_end)),
+    )?;
+    set_optional(
+        alloc,
+        table,
+        "pixel_rate",
+        unless_zero(rate_in(&vidc.pixel_rate)),
+    )?;
     set_optional(alloc, table, "ticks", unless_zero(vidc.ticks))
 }
 

@@ -264,7 +264,8 @@ fn profiles(rt: HostRuntime) -> Result<(), Fail> {
 const DEVICES: &[u8] = b"pc = 0\n[ioc]\nmask_b = 0\nmask_fiq = 0x42\ntimer_0 = 9\ncount_0 = 0\n\
     [vidc]\nvertical_cycle = 0\ndisplay_end = 0\nticks = 7\n";
 
-const WRITTEN: &str = "flags = \"IF\"\nhigh_rom = 0\nlow_rom = 0\nmode = \"svc\"\npages = 4\npc = 0\n\
+const WRITTEN: &str =
+    "flags = \"IF\"\nhigh_rom = 0\nlow_rom = 0\nmode = \"svc\"\npages = 4\npc = 0\n\
     port = 0\nsteps = 65536\n\n[ioc]\ncount_0 = 0\nmask_fiq = 66\ntimer_0 = 9\n\n\
     [vidc]\nticks = 7\nvertical_cycle = 0\n";
 

@@ -1,4 +1,4 @@
-use Rattle.std.proofs.Common.{◌+◌, ◌∙◌, ap}
+use Rattle.std.proofs.Common.{◌+◌, ◌∙◌}
 use Rattle.ioc.specs.Registers.{write_of}
 use Rattle.machine_file.proofs.DeviceStartLemmas.{start_set}
 use Rattle.machine_file.proofs.ioc_start.start.Goals as goal

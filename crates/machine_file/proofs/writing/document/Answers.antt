@@ -20,9 +20,9 @@ returns-clause-document c =
     (c.in_ok-set_placed.ensures.rows
     ∙ ap (λ (f : Stated). with_rows (table_view c.set_schedule.new.table) (word_list_rows f.words ++ device_rows f.ioc f.vidc)) (sym same)
     ∙ ap (λ (ms : Members). with_rows ms (word_list_rows file.words ++ device_rows file.ioc file.vidc))
-        (c.in_ok-set_schedule.ensures
-        ∙ ap (λ (ms : Members). with_rows ms (schedule_rows file.schedule))
-            (c.in_ok-set_controller.ensures
-            ∙ ap (λ (ms : Members). with_rows ms (controller_rows file.controller))
-                (c.in_ok-set_processor.ensures
-                ∙ ap (λ (es : List (String Global × Value)). with_rows (members_view es) (processor_rows file.processor)) c.new-table.ensures.empty))))
+    (c.in_ok-set_schedule.ensures
+    ∙ ap (λ (ms : Members). with_rows ms (schedule_rows file.schedule))
+    (c.in_ok-set_controller.ensures
+    ∙ ap (λ (ms : Members). with_rows ms (controller_rows file.controller))
+    (c.in_ok-set_processor.ensures
+    ∙ ap (λ (es : List (String Global × Value)). with_rows (members_view es) (processor_rows file.processor)) c.new-table.ensures.empty))))
