@@ -19,6 +19,11 @@ REGISTERS = {
     *(f"r{n}_fiq" for n in range(8, 15)),
     *("r13_irq", "r14_irq", "r13_svc", "r14_svc"),
 }
+# The greatest number at each key of the devices' tables, and the bits of IRQ A that are latched.
+IOC = dict.fromkeys(("mask_a", "mask_b", "mask_fiq", "requests_a"), 0xFF)
+IOC |= dict.fromkeys(("timer_0", "count_0", "timer_1", "count_1"), 0xFFFF)
+VIDC = dict.fromkeys(("horizontal_cycle", "vertical_cycle", "display_end"), 0x3FF) | {"pixel_rate": 3, "ticks": 2**32 - 1}
+LATCHED = 0x6C
 
 
 def holds(address):
@@ -389,6 +394,17 @@ def words_fault(faults, read):
     faults.of("Twice", len(set(places)) < len(places))
 
 
+def devices_fault(faults, read):
+    for name, known in (("ioc", IOC), ("vidc", VIDC)):
+        table = read.get(name, {})
+        if faults.of("WrongKind", not isinstance(table, dict)):
+            continue
+        faults.keys(table, known)
+        for key in set(table) & set(known):
+            value = faults.number(table, key, 0, known[key])
+            faults.of("OutOfRange", key == "requests_a" and value is not None and value & ~LATCHED)
+
+
 def machine_fault(text):
     """The name of what is wrong with a machine file, or None."""
     read = document(text)
@@ -396,7 +412,7 @@ def machine_fault(text):
         return "NotToml"
     faults = Faults()
     known = ("pc", "mode", "flags", "steps", "pages", "low_rom", "high_rom", "port", "registers")
-    faults.keys(read, (*known, "map", "event", "word"))
+    faults.keys(read, (*known, "map", "event", "word", "ioc", "vidc"))
     pc = faults.number(read, "pc", 0, END - 4)
     faults.of("OutOfRange", pc is not None and pc % 4 != 0)
     faults.word(read, "mode", MODES, "svc")
@@ -416,4 +432,5 @@ def machine_fault(text):
     maps_fault(faults, read, size)
     events_fault(faults, read)
     words_fault(faults, read)
+    devices_fault(faults, read)
     return faults.first()

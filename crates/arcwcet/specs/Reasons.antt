@@ -1,7 +1,7 @@
 -- What is printed after the line of a refusal: what shows why.
-use Rattle.std.specs.Prelude.{◌≡◌, ℕ, List, [], Result, Ok, Err}
+use Rattle.std.specs.Prelude.{◌≡◌, ℕ, List, [], map, Result, Ok, Err}
 use Rattle.objasm.specs.declared.faults.LineFault.{LineFault}
-use Rattle.sources.specs.Dialect.{plain_text}
+use Rattle.sources.specs.Dialect.{InGrammar, in_grammar, origin_of, text_of}
 use Rattle.sources.specs.File.{File, file_of}
 use Rattle.sources.specs.Lines.{AreLines}
 use Rattle.sources.specs.declared.read.Source.{Source}
@@ -30,19 +30,24 @@ pub record AreWordsOf (source : Source) (words : WordLines) : Type 0 where
 abbrev pub ByWords : Source → (WordLines → Type 0) → Type 0
 ByWords source Is = (words : WordLines) × AreWordsOf source words × Is words
 
+-- a line in our grammar with a fault, as the author's line that it comes from
+abbrev pub at_origin : InGrammar → FaultyLine → FaultyLine
+at_origin text line = record line { number = origin_of text line.number }
+
 -- the lines of a text that have faults in our grammar, as they stand in the text
-abbrev pub HasFaultyRows : (bytes plain : List ℕ) → List ℕ → Type 0
+abbrev pub HasFaultyRows : (bytes : List ℕ) → InGrammar → List ℕ → Type 0
 HasFaultyRows bytes plain text =
-    (lines : List FaultyLine) × AreFaultyLines plain lines × AreRows (IsFaultyRow bytes) lines text
+    (lines : List FaultyLine) × AreFaultyLines (text_of plain) lines
+    × AreRows (IsFaultyRow bytes) (map (at_origin plain) lines) text
 
 -- nothing of a text that is nothing in our grammar, as the one line says all
-abbrev pub HasRowsBy : (bytes : List ℕ) → Result (List ℕ) (LineFault × ℕ) → List ℕ → Type 0
+abbrev pub HasRowsBy : (bytes : List ℕ) → Result InGrammar (LineFault × ℕ) → List ℕ → Type 0
 HasRowsBy bytes (Ok plain) text = HasFaultyRows bytes plain text
 HasRowsBy bytes (Err fault) text = text ≡ []
 
 -- the lines of a source's file that have faults
 abbrev pub IsSourceReason : File → List ℕ → Type 0
-IsSourceReason file text = HasRowsBy file.bytes (plain_text file) text
+IsSourceReason file text = HasRowsBy file.bytes (in_grammar file) text
 
 -- of a file that is refused; nothing where the one line says all
 abbrev pub IsFileReason : RefusedFiles → ReportFault → List ℕ → Type 0

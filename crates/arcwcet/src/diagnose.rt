@@ -1,12 +1,13 @@
 //! What the one line of a refusal has no room for.
 
-ghost use Rattle.std.specs.Prelude.{◌≡◌, Err, IfOk};
+ghost use Rattle.std.specs.Prelude.{◌≡◌, Err, IfOk, map};
 ghost use Rattle.command_line.specs.Rows.{asked_of};
 ghost use Rattle.handlers.specs.Refusal.{fault_only};
 ghost use Rattle.arcwcet.specs.Reasons.{AreReasons, HasFaultyRows, IsFileReason, IsSourceReason};
-ghost use Rattle.arcwcet.specs.Reasons.{IsStopReason};
+ghost use Rattle.arcwcet.specs.Reasons.{IsStopReason, at_origin};
 ghost use Rattle.arcwcet.specs.Refusals.{Says, TakesSome, refusal_of};
 ghost use Rattle.arcwcet.specs.Run.{answer_status};
+ghost use Rattle.sources.specs.Dialect.{plain_view};
 ghost use Rattle.sources.specs.File.{file_of};
 
 use crate::reports::Job;
@@ -18,7 +19,7 @@ use outputs::{Output, write_whole};
 use sources::{PlainText, Source, SourceFile};
 use std::alloc::{AllocError, Global};
 use text_refusals::{
-    faulty_lines, faulty_text, given_text, graph_reason, loops_reason, machine_text, profile_text,
+    FaultyLine, faulty_lines, faulty_text, given_text, graph_reason, loops_reason, machine_text, profile_text,
     statement_reason, words_of,
 };
 
@@ -35,12 +36,35 @@ pub struct RefusedFiles<'a> {
     pub given: &'a [u8],
 }
 
-// The lines of a text that have faults in our grammar, as they stand in the text.
-fn lines_text(alloc: Global, bytes: &[u8], plain: &[u8]) -> Result<Vec<u8>, AllocError>
-    ensures { IfOk result (λ text. HasFaultyRows bytes.now plain.now text.items) }
+// Lines in our grammar with faults, as the author's lines that they come from.
+fn at_origins(
+    alloc: Global,
+    plain: &PlainText<'_>,
+    lines: &[FaultyLine],
+) -> Result<Vec<FaultyLine>, AllocError>
+    ensures { IfOk result (λ own. own.items ≡ map (at_origin (plain_view plain.now)) lines.now) }
 {
-    let lines = faulty_lines(alloc, plain)?;
-    faulty_text(alloc, bytes, &lines)
+    let mut own = Vec::with_capacity(alloc, lines.len())?;
+    for line in lines {
+        own.push(FaultyLine {
+            number: plain.origin(line.number),
+            fault: line.fault,
+        })?;
+    }
+    Ok(own)
+}
+
+// The lines of a text that have faults in our grammar, as they stand in the text.
+fn lines_text(
+    alloc: Global,
+    bytes: &[u8],
+    plain: &PlainText<'_>,
+) -> Result<Vec<u8>, AllocError>
+    ensures { IfOk result (λ text. HasFaultyRows bytes.now (plain_view plain.now) text.items) }
+{
+    let lines = faulty_lines(alloc, plain.bytes())?;
+    let own = at_origins(alloc, plain, &lines)?;
+    faulty_text(alloc, bytes, &own)
 }
 
 // The lines of a source that have faults.
@@ -48,7 +72,7 @@ fn source_text(alloc: Global, file: SourceFile<'_>) -> Result<Vec<u8>, AllocErro
     ensures { IfOk result (λ text. IsSourceReason (file_of file.entry) text.items) }
 {
     match PlainText::read(alloc, file) {
-        Ok(plain) => lines_text(alloc, file.bytes, plain.bytes()),
+        Ok(plain) => lines_text(alloc, file.bytes, &plain),
         Err(DialectFault::Memory) => Err(AllocError),
         Err(DialectFault::Line(..)) => Ok(Vec::new(alloc)),
     }

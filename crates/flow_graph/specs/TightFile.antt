@@ -121,6 +121,8 @@ file_of set_up pages rom =
       controller = record { size = K32; low_rom = rom.low; high_rom = rom.high; pages = map open_page pages };
       schedule = record { steps = 1; port = set_up.setting.port; events = [] };
       words = option_to_list set_up.setting.word;
+      ioc = file.no_ioc;
+      vidc = file.no_vidc;
     }
 
 -- ## What such a file is for

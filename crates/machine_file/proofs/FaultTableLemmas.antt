@@ -4,7 +4,7 @@ use Rattle.std.proofs.lemmas.Bool.{true≢false}
 use Rattle.toml.specs.Data.{Data, Members, as_table, get_member}
 use Rattle.toml_reading.specs.Lowest.{AtKey, entries_at}
 use Rattle.toml_reading.proofs.LowestParts.{some_weaker}
-use Rattle.machine_file.specs.MachineFaultRules.{AreNoTables, HasMachineFault, HasOtherKey, HasOtherKind, HasOtherNumber, HasWrongKind, IsLetterTwice, IsNoTable, IsOtherKind, IsOtherNumber, IsPageTwice, IsStepTwice, IsUnmappable, IsWordTwice, LacksKey, OfSomeTable, Row, Shape, event_shape, file_shape, map_shape, register_shape, put_word_shape}
+use Rattle.machine_file.specs.MachineFaultRules.{AreNoTables, HasMachineFault, HasOtherKey, HasOtherKind, HasOtherNumber, HasWrongKind, IsLetterTwice, IsNoTable, IsOtherKind, IsOtherNumber, IsPageTwice, IsStepTwice, IsUnmappable, IsWordTwice, LacksKey, OfSomeTable, Row, Shape, event_shape, file_shape, ioc_shape, map_shape, register_shape, put_word_shape, vidc_shape}
 use Rattle.machine_file.specs.declared.rows.Takes.{Takes}
 use Rattle.machine_file.specs.MachinePlaces.{KindFault}
 use Rattle.machine_file.specs.declared.machine_faults.MachineFileFault.{MachineFileFault}
@@ -45,8 +45,12 @@ module _ (P Q : Shape → Members → Type 0) (f : (s : Shape) (t : Members) →
       inr (inr (inl (any_map (In (P map_shape)) (In (Q map_shape)) (in_map map_shape) (entries_at (codes "map") ms) h)))
   table_map (inr (inr (inr (inl h)))) =
       inr (inr (inr (inl (any_map (In (P event_shape)) (In (Q event_shape)) (in_map event_shape) (entries_at (codes "event") ms) h))))
-  table_map (inr (inr (inr (inr h)))) =
-      inr (inr (inr (inr (any_map (In (P put_word_shape)) (In (Q put_word_shape)) (in_map put_word_shape) (entries_at (codes "word") ms) h))))
+  table_map (inr (inr (inr (inr (inl h))))) =
+      inr (inr (inr (inr (inl (any_map (In (P put_word_shape)) (In (Q put_word_shape)) (in_map put_word_shape) (entries_at (codes "word") ms) h)))))
+  table_map (inr (inr (inr (inr (inr (inl h)))))) =
+      inr (inr (inr (inr (inr (inl (some_weaker (In (P ioc_shape)) (In (Q ioc_shape)) (in_map ioc_shape) (get_member (codes "ioc") ms) h))))))
+  table_map (inr (inr (inr (inr (inr (inr h)))))) =
+      inr (inr (inr (inr (inr (inr (some_weaker (In (P vidc_shape)) (In (Q vidc_shape)) (in_map vidc_shape) (get_member (codes "vidc") ms) h))))))
 
 module _ (P Q R : Shape → Members → Type 0) (f : (s : Shape) (t : Members) → P s t → Q s t ⊎ R s t)
     (ms : Members) where
@@ -70,10 +74,20 @@ module _ (P Q R : Shape → Members → Type 0) (f : (s : Shape) (t : Members) �
         | inl q ↦ inl (inr (inr (inr (inl q))))
         | inr r ↦ inr (inr (inr (inr (inl r))))
       ]
-  table_sum (inr (inr (inr (inr h)))) =
+  table_sum (inr (inr (inr (inr (inl h))))) =
       elim (any_sum (In (P put_word_shape)) (In (Q put_word_shape)) (In (R put_word_shape)) (in_sum put_word_shape) (entries_at (codes "word") ms) h) [
-        | inl q ↦ inl (inr (inr (inr (inr q))))
-        | inr r ↦ inr (inr (inr (inr (inr r))))
+        | inl q ↦ inl (inr (inr (inr (inr (inl q)))))
+        | inr r ↦ inr (inr (inr (inr (inr (inl r)))))
+      ]
+  table_sum (inr (inr (inr (inr (inr (inl h)))))) =
+      elim (some_sum (In (P ioc_shape)) (In (Q ioc_shape)) (In (R ioc_shape)) (in_sum ioc_shape) (get_member (codes "ioc") ms) h) [
+        | inl q ↦ inl (inr (inr (inr (inr (inr (inl q))))))
+        | inr r ↦ inr (inr (inr (inr (inr (inr (inl r))))))
+      ]
+  table_sum (inr (inr (inr (inr (inr (inr h)))))) =
+      elim (some_sum (In (P vidc_shape)) (In (Q vidc_shape)) (In (R vidc_shape)) (in_sum vidc_shape) (get_member (codes "vidc") ms) h) [
+        | inl q ↦ inl (inr (inr (inr (inr (inr (inr q))))))
+        | inr r ↦ inr (inr (inr (inr (inr (inr (inr r))))))
       ]
 
 module _ (P : Shape → Members → Type 0) (C : Type 0) (f : (s : Shape) (t : Members) → P s t → C)
@@ -87,7 +101,11 @@ module _ (P : Shape → Members → Type 0) (C : Type 0) (f : (s : Shape) (t : M
       some_fact (In (P register_shape)) C (in_fact register_shape) (get_member (codes "registers") ms) h
   table_fact (inr (inr (inl h))) = in_fact map_shape h.1 h.4
   table_fact (inr (inr (inr (inl h)))) = in_fact event_shape h.1 h.4
-  table_fact (inr (inr (inr (inr h)))) = in_fact put_word_shape h.1 h.4
+  table_fact (inr (inr (inr (inr (inl h))))) = in_fact put_word_shape h.1 h.4
+  table_fact (inr (inr (inr (inr (inr (inl h)))))) =
+      some_fact (In (P ioc_shape)) C (in_fact ioc_shape) (get_member (codes "ioc") ms) h
+  table_fact (inr (inr (inr (inr (inr (inr h)))))) =
+      some_fact (In (P vidc_shape)) C (in_fact vidc_shape) (get_member (codes "vidc") ms) h
 
 -- ## The faults of one table
 
@@ -163,6 +181,8 @@ module _ (ms : Members) (f : MachineFileFault) where
       ⊎ AtKey (codes "map") ms AreNoTables
       ⊎ AtKey (codes "event") ms AreNoTables
       ⊎ AtKey (codes "word") ms AreNoTables
+      ⊎ AtKey (codes "ioc") ms IsNoTable
+      ⊎ AtKey (codes "vidc") ms IsNoTable
 
   abbrev pub Repeated : Type 0
   Repeated = IsLetterTwice ms ⊎ IsPageTwice ms ⊎ IsStepTwice ms ⊎ IsWordTwice ms

@@ -8,9 +8,9 @@ use Rattle.toml_reading.specs.Lowest.{AtKey, AtKeyOr, IsNoAddress, ListFault, Na
 use Rattle.machine_file.specs.MachineFaults.{machine_faults}
 use Rattle.machine_file.specs.MachineFile.{is_letter, is_single}
 use Rattle.ioc.specs.LineNames.{line_named}
-use Rattle.machine_file.specs.MachineFaultRules.{IsNoPutAddress, IsPageTwice, IsStepTwice, IsUnmappable, IsWordTwice}
+use Rattle.machine_file.specs.MachineFaultRules.{AreNoRequests, IsNoPutAddress, IsPageTwice, IsStepTwice, IsUnmappable, IsWordTwice}
 use Rattle.machine_file.specs.MachineRules.{kilobytes}
-use Rattle.machine_file.specs.Names.{event_keys, file_keys, map_keys, name_of, named_mode, named_registers, register_keys, word_keys}
+use Rattle.machine_file.specs.Names.{event_keys, file_keys, ioc_keys, map_keys, name_of, named_mode, named_registers, register_keys, vidc_keys, word_keys}
 use Rattle.machine_file.specs.declared.machine_faults.MachineFileFault.{MachineFileFault}
 use Rattle.machine_file.specs.declared.machine_faults.MachineFileFault.TheVariants.{UnknownKey, WrongKind, OutOfRange, Twice}
 
@@ -86,6 +86,39 @@ PutWordFaults ms f = NeedsPutAddress ms f ⊎ NeedsWord ms (codes "value") f
 abbrev pub PutWordFault : Data → MachineFileFault → Type 0
 PutWordFault d fault = TableFault machine_faults word_keys PutWordFaults d fault
 
+-- the values of the keys of IOC's table and of VIDC's
+abbrev pub UpToAt : List ℕ → ℕ → Members → MachineFileFault → Type 0
+UpToAt key limit ms f = AtKey key ms (λ e. UpToFault limit e f)
+
+abbrev pub RequestsFault : Data → MachineFileFault → Type 0
+RequestsFault d fault =
+    MatchOption (as_integer d) (fault ≡ WrongKind) (λ z. AreNoRequests z × (fault ≡ OutOfRange))
+
+abbrev pub IocFaults : Members → MachineFileFault → Type 0
+IocFaults ms f =
+    UpToAt (codes "mask_a") 0xFF ms f
+    ⊎ UpToAt (codes "mask_b") 0xFF ms f
+    ⊎ UpToAt (codes "mask_fiq") 0xFF ms f
+    ⊎ AtKey (codes "requests_a") ms (λ e. RequestsFault e f)
+    ⊎ UpToAt (codes "timer_0") 0xFFFF ms f
+    ⊎ UpToAt (codes "count_0") 0xFFFF ms f
+    ⊎ UpToAt (codes "timer_1") 0xFFFF ms f
+    ⊎ UpToAt (codes "count_1") 0xFFFF ms f
+
+abbrev pub IocFault : Data → MachineFileFault → Type 0
+IocFault d fault = TableFault machine_faults ioc_keys IocFaults d fault
+
+abbrev pub VidcFaults : Members → MachineFileFault → Type 0
+VidcFaults ms f =
+    UpToAt (codes "horizontal_cycle") 0x3FF ms f
+    ⊎ UpToAt (codes "vertical_cycle") 0x3FF ms f
+    ⊎ UpToAt (codes "display_end") 0x3FF ms f
+    ⊎ UpToAt (codes "pixel_rate") 3 ms f
+    ⊎ UpToAt (codes "ticks") (2 ^ 32 - 1) ms f
+
+abbrev pub VidcFault : Data → MachineFileFault → Type 0
+VidcFault d fault = TableFault machine_faults vidc_keys VidcFaults d fault
+
 -- those of the values of its keys
 abbrev pub ValueFault : Members → MachineFileFault → Type 0
 ValueFault ms fault =
@@ -101,6 +134,8 @@ ValueFault ms fault =
     ⊎ AtKey (codes "port") ms (λ d. WordFault d fault)
     ⊎ AtKey (codes "event") ms (λ d. ListFault machine_faults EventFault d fault)
     ⊎ AtKey (codes "word") ms (λ d. ListFault machine_faults PutWordFault d fault)
+    ⊎ AtKey (codes "ioc") ms (λ d. IocFault d fault)
+    ⊎ AtKey (codes "vidc") ms (λ d. VidcFault d fault)
 
 abbrev pub HasKeyFault : Members → MachineFileFault → Type 0
 HasKeyFault ms fault =

@@ -1,5 +1,5 @@
 -- Each key's faults in a machine file are those of a row of its table; what is read has the faults of its tables.
-use Rattle.std.proofs.Common.{◌≡◌, ◌⊎◌, ◌↔◌, ◌-◌, ◌^◌, ℕ, pos, true, false, List, [], ◌∷◌, map, codes, Any, Option, Some, None, Ok, Err, IsSomeAnd, MatchOption, is_some, unwrap_or, option_and_then, inl, inr, refl, ap}
+use Rattle.std.proofs.Common.{◌≡◌, ◌⊎◌, ◌↔◌, ◌-◌, ◌^◌, ℕ, pos, true, false, List, [], ◌∷◌, map, codes, Any, Option, Some, None, Ok, Err, IsSomeAnd, MatchOption, is_some, unwrap_or, option_and_then, inl, inr, refl, ap, subst}
 use Rattle.std.specs.Prelude.{⊤}
 use Rattle.std.specs.List.{list_all}
 use Rattle.std.proofs.lemmas.Bool.{false≢true, true≢false}
@@ -11,19 +11,22 @@ use Rattle.toml_reading.specs.Lowest.{AtKey, AtKeyOr, IsLowest, IsNoAddress, IsO
 use Rattle.toml_reading.proofs.LowestLemmas.{Judges, judged_as, judged_fault, judged_value}
 use Rattle.toml_reading.proofs.LowestParts.{any_cases, any_first, any_later, any_none, any_one_of}
 use Rattle.machine_file.specs.MachineFaults.{machine_faults}
-use Rattle.machine_file.specs.MachineFaultRules.{HasMachineFault, IsNoPutAddress, IsNoTable, Word, event_shape, file_shape, map_shape, may_have, needs, register_shape, put_word_shape}
+use Rattle.machine_file.specs.MachineFaultRules.{AreNoRequests, HasMachineFault, IsNoPutAddress, IsNoTable, Word, event_shape, file_shape, ioc_shape, map_shape, may_have, needs, register_shape, put_word_shape, vidc_shape}
 use Rattle.machine_file.specs.declared.rows.Takes.{Takes}
-use Rattle.machine_file.specs.declared.rows.Takes.TheVariants.{UpTo, Address, PutAddress, Size, ModeName, FlagLetters, LineNames}
+use Rattle.machine_file.specs.declared.rows.Takes.TheVariants.{UpTo, Address, PutAddress, Size, LatchedBits, ModeName, FlagLetters, LineNames}
 use Rattle.machine_file.specs.MachineFile.{is_letter, is_single, machine_in}
 use Rattle.machine_file.specs.MachinePlaces.{KindFault}
 use Rattle.ioc.specs.LineNames.{line_named}
-use Rattle.machine_file.specs.MachineRules.{StatesMachine, kilobytes}
+use Rattle.machine_file.specs.MachineRules.{IsIoc, IsVidc, StatesMachine, kilobytes}
+use Rattle.machine_file.specs.Started.{ioc_start, vidc_start}
+use Rattle.ioc.specs.Interrupts as ioc
+use Rattle.vidc.specs.Video as vidc
 use Rattle.machine_file.specs.Names.{name_of, named_mode, named_registers}
 use Rattle.machine_file.specs.Stated.{Stated}
 use Rattle.machine_file.specs.declared.machine_faults.MachineFileFault.{MachineFileFault}
 use Rattle.machine_file.specs.declared.machine_faults.MachineFileFault.TheVariants.{WrongKind, OutOfRange, Twice}
 use Rattle.machine_file.proofs.FaultTableLemmas.{In, RowFault, ShapeFault, TablesFault, any_map, from_machine_fault, to_machine_fault}
-use Rattle.machine_file.proofs.KeyFaults.{AddressFault, EventFault, FlagsFault, HasKeyFault, LinesFault, PageFault, PutAddressFault, PutWordFault, RegistersFault, SizeFault, UpToFault, WordFault}
+use Rattle.machine_file.proofs.KeyFaults.{AddressFault, EventFault, FlagsFault, HasKeyFault, IocFault, LinesFault, PageFault, PutAddressFault, PutWordFault, RegistersFault, RequestsFault, SizeFault, UpToAt, UpToFault, VidcFault, WordFault}
 use Rattle.machine_file.proofs.MachineRuleLemmas.{machine_judged}
 use Rattle.machine_file.proofs.MachineValueLemmas.{one_rank}
 
@@ -87,6 +90,9 @@ module _ (f : MachineFileFault) where
 
   size_kind : (d : Data) → SizeFault d f ↔ KindFault f Size d
   size_kind d = number_parts (λ z. (size : PageSize) → z ≡ pos (kilobytes size) → ⊥) (as_integer d)
+
+  requests_kind : (d : Data) → RequestsFault d f ↔ KindFault f LatchedBits d
+  requests_kind d = number_parts AreNoRequests (as_integer d)
 
   mode_kind : (d : Data) → NameFault machine_faults named_mode d f ↔ KindFault f ModeName d
   mode_kind d = alone
@@ -234,11 +240,43 @@ module _ (f : MachineFileFault) where
       (any_one_of (RowFault f t) put_word_shape.rows)))
       (as_table d)
 
+  number_row : (t : Members) (key : List ℕ) (limit : ℕ) → UpToAt key limit t f ↔ RowFault f t (may_have key (UpTo limit))
+  number_row t key limit = may_row t key (UpTo limit) (λ e. UpToFault limit e f) (up_to_kind limit)
+
+  ioc_parts : (d : Data) → IocFault d f ↔ (IsNoTable d × W) ⊎ In (ShapeFault f ioc_shape) d
+  ioc_parts d =
+      table_parts
+      _
+      (ShapeFault f ioc_shape)
+      (λ t. either same (along
+      (either (number_row t (codes "mask_a") 0xFF)
+      (either (number_row t (codes "mask_b") 0xFF)
+      (either (number_row t (codes "mask_fiq") 0xFF)
+      (either (may_row t (codes "requests_a") LatchedBits (λ e. RequestsFault e f) requests_kind)
+      (either (number_row t (codes "timer_0") 0xFFFF)
+      (either (number_row t (codes "count_0") 0xFFFF)
+      (either (number_row t (codes "timer_1") 0xFFFF) (ended (number_row t (codes "count_1") 0xFFFF)))))))))
+      (any_one_of (RowFault f t) ioc_shape.rows)))
+      (as_table d)
+
+  vidc_parts : (d : Data) → VidcFault d f ↔ (IsNoTable d × W) ⊎ In (ShapeFault f vidc_shape) d
+  vidc_parts d =
+      table_parts
+      _
+      (ShapeFault f vidc_shape)
+      (λ t. either same (along
+      (either (number_row t (codes "horizontal_cycle") 0x3FF)
+      (either (number_row t (codes "vertical_cycle") 0x3FF)
+      (either (number_row t (codes "display_end") 0x3FF)
+      (either (number_row t (codes "pixel_rate") 3) (ended (number_row t (codes "ticks") (2 ^ 32 - 1)))))))
+      (any_one_of (RowFault f t) vidc_shape.rows)))
+      (as_table d)
+
 -- ## The file
 
-gathered : {K PC MO FL LO HI SI ST PO R M E W NR NM NE NW V U LT PT SP WT T : Type 0}
-    → K ⊎ ((PC ⊎ (MO ⊎ ((FL ⊎ (LT × T)) ⊎ (((NR × V) ⊎ R) ⊎ (LO ⊎ (HI ⊎ (SI ⊎ (((NM × V) ⊎ M) ⊎ (ST ⊎ (PO ⊎ (((NE × V) ⊎ E) ⊎ ((NW × V) ⊎ W)))))))))))) ⊎ (U ⊎ ((PT × T) ⊎ ((SP × T) ⊎ (WT × T)))))
-    → ((K ⊎ (PC ⊎ (MO ⊎ (FL ⊎ (LO ⊎ (HI ⊎ (SI ⊎ (ST ⊎ (PO ⊎ ⊥))))))))) ⊎ (R ⊎ (M ⊎ (E ⊎ W)))) ⊎ (((NR ⊎ (NM ⊎ (NE ⊎ NW))) × V) ⊎ (U ⊎ ((LT ⊎ (PT ⊎ (SP ⊎ WT))) × T)))
+gathered : {K PC MO FL LO HI SI ST PO R M E W I X NR NM NE NW NI NX V U LT PT SP WT T : Type 0}
+    → K ⊎ ((PC ⊎ (MO ⊎ ((FL ⊎ (LT × T)) ⊎ (((NR × V) ⊎ R) ⊎ (LO ⊎ (HI ⊎ (SI ⊎ (((NM × V) ⊎ M) ⊎ (ST ⊎ (PO ⊎ (((NE × V) ⊎ E) ⊎ (((NW × V) ⊎ W) ⊎ (((NI × V) ⊎ I) ⊎ ((NX × V) ⊎ X)))))))))))))) ⊎ (U ⊎ ((PT × T) ⊎ ((SP × T) ⊎ (WT × T)))))
+    → ((K ⊎ (PC ⊎ (MO ⊎ (FL ⊎ (LO ⊎ (HI ⊎ (SI ⊎ (ST ⊎ (PO ⊎ ⊥))))))))) ⊎ (R ⊎ (M ⊎ (E ⊎ (W ⊎ (I ⊎ X)))))) ⊎ (((NR ⊎ (NM ⊎ (NE ⊎ (NW ⊎ (NI ⊎ NX))))) × V) ⊎ (U ⊎ ((LT ⊎ (PT ⊎ (SP ⊎ WT))) × T)))
 gathered (inl x) = inl (inl (inl x))
 gathered (inr (inl (inl x))) = inl (inl (inr (inl x)))
 gathered (inr (inl (inr (inl x)))) = inl (inl (inr (inr (inl x))))
@@ -250,7 +288,8 @@ gathered (inr (inl (inr (inr (inr (inr (inl x))))))) = inl (inl (inr (inr (inr (
 gathered (inr (inl (inr (inr (inr (inr (inr (inl x)))))))) = inl (inl (inr (inr (inr (inr (inr (inl x)))))))
 gathered (inr (inl (inr (inr (inr (inr (inr (inr (inl x))))))))) =
     inl (inl (inr (inr (inr (inr (inr (inr (inl x))))))))
-gathered (inr (inl (inr (inr (inr (inr (inr (inr (inr (inl (inl x))))))))))) = inr (inl (inr (inl x.0), x.1))
+gathered (inr (inl (inr (inr (inr (inr (inr (inr (inr (inl (inl x))))))))))) =
+    inr (inl (inr (inl x.0), x.1))
 gathered (inr (inl (inr (inr (inr (inr (inr (inr (inr (inl (inr x))))))))))) = inl (inr (inr (inl x)))
 gathered (inr (inl (inr (inr (inr (inr (inr (inr (inr (inr (inl x))))))))))) =
     inl (inl (inr (inr (inr (inr (inr (inr (inr (inl x)))))))))
@@ -260,45 +299,64 @@ gathered (inr (inl (inr (inr (inr (inr (inr (inr (inr (inr (inr (inr (inl (inl x
     inr (inl (inr (inr (inl x.0)), x.1))
 gathered (inr (inl (inr (inr (inr (inr (inr (inr (inr (inr (inr (inr (inl (inr x)))))))))))))) =
     inl (inr (inr (inr (inl x))))
-gathered (inr (inl (inr (inr (inr (inr (inr (inr (inr (inr (inr (inr (inr (inl x)))))))))))))) =
-    inr (inl (inr (inr (inr x.0)), x.1))
-gathered (inr (inl (inr (inr (inr (inr (inr (inr (inr (inr (inr (inr (inr (inr x)))))))))))))) =
-    inl (inr (inr (inr (inr x))))
+gathered (inr (inl (inr (inr (inr (inr (inr (inr (inr (inr (inr (inr (inr (inl (inl x))))))))))))))) =
+    inr (inl (inr (inr (inr (inl x.0))), x.1))
+gathered (inr (inl (inr (inr (inr (inr (inr (inr (inr (inr (inr (inr (inr (inl (inr x))))))))))))))) =
+    inl (inr (inr (inr (inr (inl x)))))
+gathered (inr (inl (inr (inr (inr (inr (inr (inr (inr (inr (inr (inr (inr (inr (inl (inl x)))))))))))))))) =
+    inr (inl (inr (inr (inr (inr (inl x.0)))), x.1))
+gathered (inr (inl (inr (inr (inr (inr (inr (inr (inr (inr (inr (inr (inr (inr (inl (inr x)))))))))))))))) =
+    inl (inr (inr (inr (inr (inr (inl x))))))
+gathered (inr (inl (inr (inr (inr (inr (inr (inr (inr (inr (inr (inr (inr (inr (inr (inl x)))))))))))))))) =
+    inr (inl (inr (inr (inr (inr (inr x.0)))), x.1))
+gathered (inr (inl (inr (inr (inr (inr (inr (inr (inr (inr (inr (inr (inr (inr (inr (inr x)))))))))))))))) =
+    inl (inr (inr (inr (inr (inr (inr x))))))
 gathered (inr (inr (inl x))) = inr (inr (inl x))
 gathered (inr (inr (inr (inl x)))) = inr (inr (inr (inr (inl x.0), x.1)))
 gathered (inr (inr (inr (inr (inl x))))) = inr (inr (inr (inr (inr (inl x.0)), x.1)))
 gathered (inr (inr (inr (inr (inr x))))) = inr (inr (inr (inr (inr (inr x.0)), x.1)))
 
-scattered : {K PC MO FL LO HI SI ST PO R M E W NR NM NE NW V U LT PT SP WT T : Type 0}
-    → ((K ⊎ (PC ⊎ (MO ⊎ (FL ⊎ (LO ⊎ (HI ⊎ (SI ⊎ (ST ⊎ (PO ⊎ ⊥))))))))) ⊎ (R ⊎ (M ⊎ (E ⊎ W)))) ⊎ (((NR ⊎ (NM ⊎ (NE ⊎ NW))) × V) ⊎ (U ⊎ ((LT ⊎ (PT ⊎ (SP ⊎ WT))) × T)))
-    → K ⊎ ((PC ⊎ (MO ⊎ ((FL ⊎ (LT × T)) ⊎ (((NR × V) ⊎ R) ⊎ (LO ⊎ (HI ⊎ (SI ⊎ (((NM × V) ⊎ M) ⊎ (ST ⊎ (PO ⊎ (((NE × V) ⊎ E) ⊎ ((NW × V) ⊎ W)))))))))))) ⊎ (U ⊎ ((PT × T) ⊎ ((SP × T) ⊎ (WT × T)))))
+scattered : {K PC MO FL LO HI SI ST PO R M E W I X NR NM NE NW NI NX V U LT PT SP WT T : Type 0}
+    → ((K ⊎ (PC ⊎ (MO ⊎ (FL ⊎ (LO ⊎ (HI ⊎ (SI ⊎ (ST ⊎ (PO ⊎ ⊥))))))))) ⊎ (R ⊎ (M ⊎ (E ⊎ (W ⊎ (I ⊎ X)))))) ⊎ (((NR ⊎ (NM ⊎ (NE ⊎ (NW ⊎ (NI ⊎ NX))))) × V) ⊎ (U ⊎ ((LT ⊎ (PT ⊎ (SP ⊎ WT))) × T)))
+    → K ⊎ ((PC ⊎ (MO ⊎ ((FL ⊎ (LT × T)) ⊎ (((NR × V) ⊎ R) ⊎ (LO ⊎ (HI ⊎ (SI ⊎ (((NM × V) ⊎ M) ⊎ (ST ⊎ (PO ⊎ (((NE × V) ⊎ E) ⊎ (((NW × V) ⊎ W) ⊎ (((NI × V) ⊎ I) ⊎ ((NX × V) ⊎ X)))))))))))))) ⊎ (U ⊎ ((PT × T) ⊎ ((SP × T) ⊎ (WT × T)))))
 scattered (inl (inl (inl x))) = inl x
 scattered (inl (inl (inr (inl x)))) = inr (inl (inl x))
 scattered (inl (inl (inr (inr (inl x))))) = inr (inl (inr (inl x)))
 scattered (inl (inl (inr (inr (inr (inl x)))))) = inr (inl (inr (inr (inl (inl x)))))
 scattered (inl (inl (inr (inr (inr (inr (inl x))))))) = inr (inl (inr (inr (inr (inr (inl x))))))
-scattered (inl (inl (inr (inr (inr (inr (inr (inl x)))))))) = inr (inl (inr (inr (inr (inr (inr (inl x)))))))
+scattered (inl (inl (inr (inr (inr (inr (inr (inl x)))))))) =
+    inr (inl (inr (inr (inr (inr (inr (inl x)))))))
 scattered (inl (inl (inr (inr (inr (inr (inr (inr (inl x))))))))) =
     inr (inl (inr (inr (inr (inr (inr (inr (inl x))))))))
 scattered (inl (inl (inr (inr (inr (inr (inr (inr (inr (inl x)))))))))) =
     inr (inl (inr (inr (inr (inr (inr (inr (inr (inr (inl x))))))))))
 scattered (inl (inl (inr (inr (inr (inr (inr (inr (inr (inr (inl x))))))))))) =
     inr (inl (inr (inr (inr (inr (inr (inr (inr (inr (inr (inl x)))))))))))
+scattered (inl (inl (inr (inr (inr (inr (inr (inr (inr (inr (inr x))))))))))) = absurd x
 scattered (inl (inr (inl x))) = inr (inl (inr (inr (inr (inl (inr x))))))
 scattered (inl (inr (inr (inl x)))) = inr (inl (inr (inr (inr (inr (inr (inr (inr (inl (inr x))))))))))
 scattered (inl (inr (inr (inr (inl x))))) =
     inr (inl (inr (inr (inr (inr (inr (inr (inr (inr (inr (inr (inl (inr x)))))))))))))
-scattered (inl (inr (inr (inr (inr x))))) =
-    inr (inl (inr (inr (inr (inr (inr (inr (inr (inr (inr (inr (inr (inr x)))))))))))))
+scattered (inl (inr (inr (inr (inr (inl x)))))) =
+    inr (inl (inr (inr (inr (inr (inr (inr (inr (inr (inr (inr (inr (inl (inr x))))))))))))))
+scattered (inl (inr (inr (inr (inr (inr (inl x))))))) =
+    inr (inl (inr (inr (inr (inr (inr (inr (inr (inr (inr (inr (inr (inr (inl (inr x)))))))))))))))
+scattered (inl (inr (inr (inr (inr (inr (inr x))))))) =
+    inr (inl (inr (inr (inr (inr (inr (inr (inr (inr (inr (inr (inr (inr (inr (inr x)))))))))))))))
 scattered (inr (inr (inl x))) = inr (inr (inl x))
-scattered (inl (inl (inr (inr (inr (inr (inr (inr (inr (inr (inr x))))))))))) = absurd x
 scattered (inr (inl x)) = elim x.0 [
   | inl y ↦ inr (inl (inr (inr (inr (inl (inl (y, x.1)))))))
   | inr z ↦ elim z [
     | inl y ↦ inr (inl (inr (inr (inr (inr (inr (inr (inr (inl (inl (y, x.1)))))))))))
     | inr w ↦ elim w [
       | inl y ↦ inr (inl (inr (inr (inr (inr (inr (inr (inr (inr (inr (inr (inl (inl (y, x.1))))))))))))))
-      | inr y ↦ inr (inl (inr (inr (inr (inr (inr (inr (inr (inr (inr (inr (inr (inl (y, x.1))))))))))))))
+      | inr v ↦ elim v [
+        | inl y ↦ inr (inl (inr (inr (inr (inr (inr (inr (inr (inr (inr (inr (inr (inl (inl (y, x.1)))))))))))))))
+        | inr u ↦ elim u [
+          | inl y ↦ inr (inl (inr (inr (inr (inr (inr (inr (inr (inr (inr (inr (inr (inr (inl (inl (y, x.1))))))))))))))))
+          | inr y ↦ inr (inl (inr (inr (inr (inr (inr (inr (inr (inr (inr (inr (inr (inr (inr (inl (y, x.1))))))))))))))))
+        ]
+      ]
     ]
   ]
 ]
@@ -313,8 +371,8 @@ scattered (inr (inr (inr x))) = elim x.0 [
   ]
 ]
 
-regrouped : {K PC MO FL LO HI SI ST PO R M E W NR NM NE NW V U LT PT SP WT T : Type 0}
-    → K ⊎ ((PC ⊎ (MO ⊎ ((FL ⊎ (LT × T)) ⊎ (((NR × V) ⊎ R) ⊎ (LO ⊎ (HI ⊎ (SI ⊎ (((NM × V) ⊎ M) ⊎ (ST ⊎ (PO ⊎ (((NE × V) ⊎ E) ⊎ ((NW × V) ⊎ W)))))))))))) ⊎ (U ⊎ ((PT × T) ⊎ ((SP × T) ⊎ (WT × T))))) ↔ ((K ⊎ (PC ⊎ (MO ⊎ (FL ⊎ (LO ⊎ (HI ⊎ (SI ⊎ (ST ⊎ (PO ⊎ ⊥))))))))) ⊎ (R ⊎ (M ⊎ (E ⊎ W)))) ⊎ (((NR ⊎ (NM ⊎ (NE ⊎ NW))) × V) ⊎ (U ⊎ ((LT ⊎ (PT ⊎ (SP ⊎ WT))) × T)))
+regrouped : {K PC MO FL LO HI SI ST PO R M E W I X NR NM NE NW NI NX V U LT PT SP WT T : Type 0}
+    → K ⊎ ((PC ⊎ (MO ⊎ ((FL ⊎ (LT × T)) ⊎ (((NR × V) ⊎ R) ⊎ (LO ⊎ (HI ⊎ (SI ⊎ (((NM × V) ⊎ M) ⊎ (ST ⊎ (PO ⊎ (((NE × V) ⊎ E) ⊎ (((NW × V) ⊎ W) ⊎ (((NI × V) ⊎ I) ⊎ ((NX × V) ⊎ X)))))))))))))) ⊎ (U ⊎ ((PT × T) ⊎ ((SP × T) ⊎ (WT × T))))) ↔ ((K ⊎ (PC ⊎ (MO ⊎ (FL ⊎ (LO ⊎ (HI ⊎ (SI ⊎ (ST ⊎ (PO ⊎ ⊥))))))))) ⊎ (R ⊎ (M ⊎ (E ⊎ (W ⊎ (I ⊎ X)))))) ⊎ (((NR ⊎ (NM ⊎ (NE ⊎ (NW ⊎ (NI ⊎ NX))))) × V) ⊎ (U ⊎ ((LT ⊎ (PT ⊎ (SP ⊎ WT))) × T)))
 regrouped = (λ h. gathered h, λ h. scattered h)
 
 module _ (ms : Members) (f : MachineFileFault) where
@@ -333,7 +391,9 @@ module _ (ms : Members) (f : MachineFileFault) where
       (either (may_row f ms (codes "steps") (UpTo 65536) (λ d. UpToFault 65536 d f) (up_to_kind f 65536))
       (either (may_row f ms (codes "port") Word (λ d. WordFault d f) (up_to_kind f (2 ^ 32 - 1)))
       (either (list_parts f (λ d. EventFault d f) IsNoTable (In (ShapeFault f event_shape)) (event_parts f) (get_member (codes "event") ms))
-      (list_parts f (λ d. PutWordFault d f) IsNoTable (In (ShapeFault f put_word_shape)) (put_word_parts f) (get_member (codes "word") ms)))))))))))))
+      (either (list_parts f (λ d. PutWordFault d f) IsNoTable (In (ShapeFault f put_word_shape)) (put_word_parts f) (get_member (codes "word") ms))
+      (either (value_parts f (λ d. IocFault d f) IsNoTable (In (ShapeFault f ioc_shape)) (ioc_parts f) (get_member (codes "ioc") ms))
+      (value_parts f (λ d. VidcFault d f) IsNoTable (In (ShapeFault f vidc_shape)) (vidc_parts f) (get_member (codes "vidc") ms)))))))))))))))
       same))
       (along regrouped (either (either (either same (any_one_of (RowFault f ms) file_shape.rows)) same) same))
 
@@ -374,3 +434,20 @@ machine_fault ms fault =
     (machine_in ms)
     (tables_judged ms)
     fault
+
+-- ## Without tables of devices
+
+if_missing : {M : Type 0} (P : Data → Type 0) (o : Option Data) → MatchOption o M P → o ≡ None → M
+if_missing {M} P o h none = subst (λ (x : Option Data). MatchOption x M P) none h
+
+pub missing_ioc : (ms : Members) (stated : Stated) → machine_in ms ≡ Ok stated → get_member (codes "ioc") ms ≡ None
+    → ioc_start stated.ioc ≡ ioc.fresh
+missing_ioc ms stated read none =
+    let states = (machine_stated ms stated).0 read in
+    ap ioc_start (if_missing (λ d. IsIoc d stated.ioc) (get_member (codes "ioc") ms) states.ioc none)
+
+pub missing_vidc : (ms : Members) (stated : Stated) → machine_in ms ≡ Ok stated → get_member (codes "vidc") ms ≡ None
+    → vidc_start stated.vidc ≡ vidc.fresh
+missing_vidc ms stated read none =
+    let states = (machine_stated ms stated).0 read in
+    ap vidc_start (if_missing (λ d. IsVidc d stated.vidc) (get_member (codes "vidc") ms) states.vidc none)

@@ -6,6 +6,8 @@ mod KeyFaults
 mod MachineValueLemmas
 mod OnceLemmas
 mod PutWordLemmas
+mod DeviceLemmas
+mod DeviceStartLemmas
 mod MachineRuleLemmas
 mod FaultTableLemmas
 mod KeyTableLemmas

@@ -15,12 +15,12 @@ use Rattle.toml_reading.specs.Readings.{pair, reading_map}
 use Rattle.toml_reading.proofs.LowestLemmas.{Judges, and_then_judged, joint, judged_as, judged_one, optional_judged, required_judged, map_judged, two_tests}
 use Rattle.toml_reading.proofs.LowestParts.{entries_state, keys_judged, named_judged, number_or_judged, number_read, numbers_read, some_weaker, tables_judged}
 use Rattle.machine_file.specs.MachineFaults.{machine_faults, number_of}
-use Rattle.machine_file.specs.MachineFile.{Read, are_single, controller_in, controller_of, event_at, events_in, flags_at, flags_in, is_mappable, machine_in, mapped, mode_at, mode_in, page_at, pages_in, pc_at, pc_in, processor_in, processor_of, registers_at, registers_in, schedule_in, schedule_of, set_flags, size_at, size_in, stated_of, put_words_in}
+use Rattle.machine_file.specs.MachineFile.{Read, are_single, controller_in, controller_of, event_at, events_in, flags_at, flags_in, is_mappable, machine_in, mapped, mode_at, mode_in, page_at, pages_in, pc_at, pc_in, processor_in, processor_of, registers_at, registers_in, schedule_in, schedule_of, set_flags, size_at, size_in, stated_of, put_words_in, devices_in}
 use Rattle.machine_file.specs.MachineFaultRules.{IsPageTwice, IsStepTwice, IsUnmappable, are_below, page_numbers}
 use Rattle.machine_file.specs.MachineRules.{AreFlags, AreRegisters, IsAddress, IsEvent, IsPage, IsSize, StatesController, StatesMachine, StatesProcessor, StatesSchedule}
 use Rattle.machine_file.specs.Words.{IsWord}
 use Rattle.machine_file.specs.Names.{file_keys, map_keys, named_mode}
-use Rattle.machine_file.specs.Stated.{Controller, Processor, Schedule, Stated}
+use Rattle.machine_file.specs.Stated.{Controller, IocSetting, Processor, Schedule, Stated, VidcSetting}
 use Rattle.machine_file.specs.declared.events.Event.{Event}
 use Rattle.machine_file.specs.declared.flags.PsrFlags.{PsrFlags}
 use Rattle.machine_file.specs.declared.machine_faults.MachineFileFault.{MachineFileFault}
@@ -29,6 +29,7 @@ use Rattle.machine_file.specs.declared.pages.MappedPage.{MappedPage}
 use Rattle.machine_file.proofs.MachineValueLemmas.{address_judged, event_judged, event_low, flags_judged, page_judged, page_low, registers_judged, size_judged, size_low, list_low, some_low}
 use Rattle.machine_file.proofs.KeyFaults.{AddressFault, EventFault, FlagsFault, HasKeyFault, PageFault, RegistersFault, SizeFault, UpToFault, WordFault}
 use Rattle.machine_file.proofs.OnceLemmas.{once_judged}
+use Rattle.machine_file.proofs.DeviceLemmas.{IocsFault, IocsStates, VidcsFault, VidcsStates, ioc_in_judged, vidc_in_judged}
 use Rattle.machine_file.proofs.PutWordLemmas.{WordTwiceFault, WordsFault, WordsStates, words_judged}
 
 -- ## The processor
@@ -380,19 +381,19 @@ module _ (ms : Members) where
 abbrev FileStates : Members → Stated → Type 0
 FileStates ms s =
     ProcessorStates ms s.processor
-    × (ControllerStates ms s.controller × (ScheduleStates ms s.schedule × WordsStates ms s.words))
+    × (ControllerStates ms s.controller × (ScheduleStates ms s.schedule × (WordsStates ms s.words × (IocsStates ms s.ioc × VidcsStates ms s.vidc))))
 
 abbrev FileFault : Members → MachineFileFault → Type 0
 FileFault ms f =
     ProcessorFault ms f
-    ⊎ (ControllerFault ms f ⊎ (ScheduleFault ms f ⊎ (WordsFault ms f ⊎ WordTwiceFault ms f)))
+    ⊎ (ControllerFault ms f ⊎ (ScheduleFault ms f ⊎ ((WordsFault ms f ⊎ WordTwiceFault ms f) ⊎ (IocsFault ms f ⊎ VidcsFault ms f))))
 
-abbrev parts_in : Members → Read (Processor × (Controller × (Schedule × List (ℕ × ℕ))))
+abbrev parts_in : Members → Read (Processor × (Controller × (Schedule × (List (ℕ × ℕ) × (IocSetting × VidcSetting)))))
 parts_in ms =
     pair
     machine_faults
     (processor_in ms)
-    (pair machine_faults (controller_in ms) (pair machine_faults (schedule_in ms) (put_words_in ms)))
+    (pair machine_faults (controller_in ms) (pair machine_faults (schedule_in ms) (pair machine_faults (put_words_in ms) (devices_in ms))))
 
 file_judged : (ms : Members)
     → Judges machine_faults (FileStates ms) (FileFault ms) (reading_map stated_of (parts_in ms))
@@ -404,9 +405,9 @@ file_judged ms =
     (FileFault ms)
     stated_of
     (λ p s. s)
-    (λ s t. ((s.processor, (s.controller, (s.schedule, s.words))), t, refl))
+    (λ s t. ((s.processor, (s.controller, (s.schedule, (s.words, (s.ioc, s.vidc))))), t, refl))
     _
-    (joint (processor_judged ms) (joint (controller_judged ms) (joint (schedule_judged ms) (words_judged ms))))
+    (joint (processor_judged ms) (joint (controller_judged ms) (joint (schedule_judged ms) (joint (words_judged ms) (joint (ioc_in_judged ms) (vidc_in_judged ms))))))
 
 to_machine : (ms : Members) (s : Stated) → (has_only_keys file_keys ms ≡ true) × FileStates ms s
     → StatesMachine ms s
@@ -428,8 +429,10 @@ to_machine ms s h = record {
         events = h.1.1.1.0.1.0;
         steps_once = h.1.1.1.0.1.1;
       };
-  words = h.1.1.1.1.0;
-  words_once = h.1.1.1.1.1;
+  words = h.1.1.1.1.0.0;
+  words_once = h.1.1.1.1.0.1;
+  ioc = h.1.1.1.1.1.0;
+  vidc = h.1.1.1.1.1.1;
 }
 
 from_processor : (ms : Members) (p : Processor) → StatesProcessor ms p → ProcessorStates ms p
@@ -445,13 +448,13 @@ from_machine : (ms : Members) (s : Stated) → StatesMachine ms s
     → (has_only_keys file_keys ms ≡ true) × FileStates ms s
 from_machine ms s m = (
   m.known,
-  (from_processor ms s.processor m.processor, (from_controller ms s.controller m.controller, (from_schedule ms s.schedule m.schedule, (m.words, m.words_once)))),
+  (from_processor ms s.processor m.processor, (from_controller ms s.controller m.controller, (from_schedule ms s.schedule m.schedule, ((m.words, m.words_once), (m.ioc, m.vidc))))),
 )
 
 -- the faults in the order of the readings, and by whether one value alone shows them
-to_faults : {K P M F R L H S A T O E D U W V X : Type 0}
-    → K ⊎ (((P ⊎ (M ⊎ F)) ⊎ R) ⊎ (((L ⊎ H) ⊎ ((S ⊎ A) ⊎ (U ⊎ W))) ⊎ (((T ⊎ O) ⊎ (E ⊎ V)) ⊎ (D ⊎ X))))
-    → K ⊎ ((P ⊎ (M ⊎ (F ⊎ (R ⊎ (L ⊎ (H ⊎ (S ⊎ (A ⊎ (T ⊎ (O ⊎ (E ⊎ D))))))))))) ⊎ (U ⊎ (W ⊎ (V ⊎ X))))
+to_faults : {K P M F R L H S A T O E D U W V X I Y : Type 0}
+    → K ⊎ (((P ⊎ (M ⊎ F)) ⊎ R) ⊎ (((L ⊎ H) ⊎ ((S ⊎ A) ⊎ (U ⊎ W))) ⊎ (((T ⊎ O) ⊎ (E ⊎ V)) ⊎ ((D ⊎ X) ⊎ (I ⊎ Y)))))
+    → K ⊎ ((P ⊎ (M ⊎ (F ⊎ (R ⊎ (L ⊎ (H ⊎ (S ⊎ (A ⊎ (T ⊎ (O ⊎ (E ⊎ (D ⊎ (I ⊎ Y))))))))))))) ⊎ (U ⊎ (W ⊎ (V ⊎ X))))
 to_faults (inl x) = inl x
 to_faults (inr (inl (inl (inl x)))) = inr (inl (inl x))
 to_faults (inr (inl (inl (inr (inl x))))) = inr (inl (inr (inl x)))
@@ -460,7 +463,8 @@ to_faults (inr (inl (inr x))) = inr (inl (inr (inr (inr (inl x)))))
 to_faults (inr (inr (inl (inl (inl x))))) = inr (inl (inr (inr (inr (inr (inl x))))))
 to_faults (inr (inr (inl (inl (inr x))))) = inr (inl (inr (inr (inr (inr (inr (inl x)))))))
 to_faults (inr (inr (inl (inr (inl (inl x)))))) = inr (inl (inr (inr (inr (inr (inr (inr (inl x))))))))
-to_faults (inr (inr (inl (inr (inl (inr x)))))) = inr (inl (inr (inr (inr (inr (inr (inr (inr (inl x)))))))))
+to_faults (inr (inr (inl (inr (inl (inr x)))))) =
+    inr (inl (inr (inr (inr (inr (inr (inr (inr (inl x)))))))))
 to_faults (inr (inr (inl (inr (inr (inl x)))))) = inr (inr (inl x))
 to_faults (inr (inr (inl (inr (inr (inr x)))))) = inr (inr (inr (inl x)))
 to_faults (inr (inr (inr (inl (inl (inl x)))))) =
@@ -470,13 +474,17 @@ to_faults (inr (inr (inr (inl (inl (inr x)))))) =
 to_faults (inr (inr (inr (inl (inr (inl x)))))) =
     inr (inl (inr (inr (inr (inr (inr (inr (inr (inr (inr (inr (inl x))))))))))))
 to_faults (inr (inr (inr (inl (inr (inr x)))))) = inr (inr (inr (inr (inl x))))
-to_faults (inr (inr (inr (inr (inl x))))) =
-    inr (inl (inr (inr (inr (inr (inr (inr (inr (inr (inr (inr (inr x))))))))))))
-to_faults (inr (inr (inr (inr (inr x))))) = inr (inr (inr (inr (inr x))))
+to_faults (inr (inr (inr (inr (inl (inl x)))))) =
+    inr (inl (inr (inr (inr (inr (inr (inr (inr (inr (inr (inr (inr (inl x)))))))))))))
+to_faults (inr (inr (inr (inr (inl (inr x)))))) = inr (inr (inr (inr (inr x))))
+to_faults (inr (inr (inr (inr (inr (inl x)))))) =
+    inr (inl (inr (inr (inr (inr (inr (inr (inr (inr (inr (inr (inr (inr (inl x))))))))))))))
+to_faults (inr (inr (inr (inr (inr (inr x)))))) =
+    inr (inl (inr (inr (inr (inr (inr (inr (inr (inr (inr (inr (inr (inr (inr x))))))))))))))
 
-from_faults : {K P M F R L H S A T O E D U W V X : Type 0}
-    → K ⊎ ((P ⊎ (M ⊎ (F ⊎ (R ⊎ (L ⊎ (H ⊎ (S ⊎ (A ⊎ (T ⊎ (O ⊎ (E ⊎ D))))))))))) ⊎ (U ⊎ (W ⊎ (V ⊎ X))))
-    → K ⊎ (((P ⊎ (M ⊎ F)) ⊎ R) ⊎ (((L ⊎ H) ⊎ ((S ⊎ A) ⊎ (U ⊎ W))) ⊎ (((T ⊎ O) ⊎ (E ⊎ V)) ⊎ (D ⊎ X))))
+from_faults : {K P M F R L H S A T O E D U W V X I Y : Type 0}
+    → K ⊎ ((P ⊎ (M ⊎ (F ⊎ (R ⊎ (L ⊎ (H ⊎ (S ⊎ (A ⊎ (T ⊎ (O ⊎ (E ⊎ (D ⊎ (I ⊎ Y))))))))))))) ⊎ (U ⊎ (W ⊎ (V ⊎ X))))
+    → K ⊎ (((P ⊎ (M ⊎ F)) ⊎ R) ⊎ (((L ⊎ H) ⊎ ((S ⊎ A) ⊎ (U ⊎ W))) ⊎ (((T ⊎ O) ⊎ (E ⊎ V)) ⊎ ((D ⊎ X) ⊎ (I ⊎ Y)))))
 from_faults (inl x) = inl x
 from_faults (inr (inl (inl x))) = inr (inl (inl (inl x)))
 from_faults (inr (inl (inr (inl x)))) = inr (inl (inl (inr (inl x))))
@@ -493,12 +501,16 @@ from_faults (inr (inl (inr (inr (inr (inr (inr (inr (inr (inr (inr (inl x)))))))
     inr (inr (inr (inl (inl (inr x)))))
 from_faults (inr (inl (inr (inr (inr (inr (inr (inr (inr (inr (inr (inr (inl x))))))))))))) =
     inr (inr (inr (inl (inr (inl x)))))
-from_faults (inr (inl (inr (inr (inr (inr (inr (inr (inr (inr (inr (inr (inr x))))))))))))) =
-    inr (inr (inr (inr (inl x))))
+from_faults (inr (inl (inr (inr (inr (inr (inr (inr (inr (inr (inr (inr (inr (inl x)))))))))))))) =
+    inr (inr (inr (inr (inl (inl x)))))
+from_faults (inr (inl (inr (inr (inr (inr (inr (inr (inr (inr (inr (inr (inr (inr (inl x))))))))))))))) =
+    inr (inr (inr (inr (inr (inl x)))))
+from_faults (inr (inl (inr (inr (inr (inr (inr (inr (inr (inr (inr (inr (inr (inr (inr x))))))))))))))) =
+    inr (inr (inr (inr (inr (inr x)))))
 from_faults (inr (inr (inl x))) = inr (inr (inl (inr (inr (inl x)))))
 from_faults (inr (inr (inr (inl x)))) = inr (inr (inl (inr (inr (inr x)))))
 from_faults (inr (inr (inr (inr (inl x))))) = inr (inr (inr (inl (inr (inr x)))))
-from_faults (inr (inr (inr (inr (inr x))))) = inr (inr (inr (inr (inr x))))
+from_faults (inr (inr (inr (inr (inr x))))) = inr (inr (inr (inr (inl (inr x)))))
 
 pub machine_judged : (ms : Members)
     → Judges machine_faults (StatesMachine ms) (HasKeyFault ms) (machine_in ms)

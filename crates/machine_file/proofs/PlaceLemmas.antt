@@ -21,17 +21,17 @@ use Rattle.toml_reading.proofs.AddressLemmas.{integer_judged}
 use Rattle.toml_reading.proofs.LowestLemmas.{AnswersBy, judged_value, optional_judged}
 use Rattle.toml_reading.proofs.LowestParts.{not_whole, whole_same}
 use Rattle.ioc.specs.LineNames.{line_named}
-use Rattle.machine_file.specs.MachineFaultRules.{IsLetterTwice, IsNoPutAddress, IsNoTable, IsOtherKind, IsOtherNumber, OfLimit, Row, Shape, file_shape, register_shape}
+use Rattle.machine_file.specs.MachineFaultRules.{AreNoRequests, IsLetterTwice, IsNoPutAddress, IsNoTable, IsOtherKind, IsOtherNumber, OfLimit, Row, Shape, file_shape}
 use Rattle.machine_file.specs.MachineFaults.{machine_faults, number_of}
-use Rattle.machine_file.specs.MachineFile.{Read, is_letter, is_single, put_address_of, size_at, size_in, size_of}
-use Rattle.machine_file.specs.MachinePlaces.{AtNumber, IsAmongFirst, IsMachineFaultAt, KindFault, PartFault, differs, list_key, number_key, number_list, shape_in}
+use Rattle.machine_file.specs.MachineFile.{Read, are_latched, is_letter, is_single, put_address_of, requests_of, size_at, size_in, size_of}
+use Rattle.machine_file.specs.MachinePlaces.{AtNumber, IsAmongFirst, IsMachineFaultAt, KindFault, PartFault, differs, list_key, number_key, number_list, shape_in, shape_of, table_key}
 use Rattle.machine_file.specs.MachinePlaceTests.{are_no_lines, are_other_letters, entry_at, found, has_letter_twice, holds_of, is_no_list, is_no_table, is_other_kind, is_other_number, is_outside, is_past, is_same, is_second, is_twice_text, is_unmappable, kind_gives, logical_limit, misses_one, names_no_line, number_at, part_gives, value_gives, values_give}
 use Rattle.machine_file.specs.MachineRules.{IsSize, kilobytes}
 use Rattle.machine_file.specs.Names.{named_mode}
 use Rattle.machine_file.specs.declared.machine_faults.MachineFileFault.{MachineFileFault}
 use Rattle.machine_file.specs.declared.machine_faults.MachineFileFault.TheVariants.{Memory, NotToml, UnknownKey, WrongKind, OutOfRange, Twice}
 use Rattle.machine_file.specs.declared.rows.Takes.{Takes}
-use Rattle.machine_file.specs.declared.rows.Takes.TheVariants.{UpTo, Address, PutAddress, Size, ModeName, FlagLetters, LineNames}
+use Rattle.machine_file.specs.declared.rows.Takes.TheVariants.{UpTo, Address, PutAddress, Size, LatchedBits, ModeName, FlagLetters, LineNames}
 use Rattle.machine_file.specs.declared.spots.EntryNumber.{EntryNumber}
 use Rattle.machine_file.specs.declared.spots.EntryNumber.TheVariants as number
 use Rattle.machine_file.specs.declared.spots.MachineSpot.{MachineSpot}
@@ -40,6 +40,7 @@ use Rattle.machine_file.specs.declared.spots.Part.{Part}
 use Rattle.machine_file.specs.declared.spots.Part.TheVariants.{Unknown, Value, Missing}
 use Rattle.machine_file.proofs.KeyFaults.{SizeFault}
 use Rattle.machine_file.proofs.MachineValueLemmas.{one_rank, size_answers, size_judged}
+use Rattle.machine_file.proofs.DeviceLemmas.{requests_answers}
 use Rattle.machine_file.proofs.PutWordLemmas.{put_address_answers}
 use Rattle.machine_file.proofs.RepeatLemmas.{repeat_is}
 use Rattle.machine_file.proofs.TestLemmas.{and_is, by_way, holds_inside, holds_is, list_any_is, no_some_is, none_is, not_is, same_test}
@@ -90,6 +91,12 @@ no_put_address_is z =
     (err_is machine_faults _ _ (put_address_of z) (put_address_answers z).answers)
     (curried (λ a. IsTrue (may_hold a)))
 
+no_requests_is : (z : ℤ) → is_err (requests_of z) ≡ true ↔ AreNoRequests z
+no_requests_is z =
+    by_way
+    (err_is machine_faults _ _ (requests_of z) (requests_answers z).answers)
+    (curried (λ n. IsTrue (are_latched n)))
+
 never_of : (o : Option ℤ) → holds_of (λ z. false) o ≡ true ↔ ⊥
 never_of None = never (λ h. h)
 never_of (Some z) = never (λ h. h)
@@ -102,6 +109,7 @@ number_is PutAddress d = holds_is (λ z. is_err (put_address_of z)) IsNoPutAddre
 number_is Size d =
     holds_is (λ z. is_err (size_of z)) (λ z. (s : PageSize) → z ≡ pos (kilobytes s) → ⊥)
     (λ z. err_is machine_faults _ _ (size_of z) (size_answers z)) (as_integer d)
+number_is LatchedBits d = holds_is (λ z. is_err (requests_of z)) AreNoRequests no_requests_is (as_integer d)
 number_is ModeName d = never_of (as_integer d)
 number_is FlagLetters d = never_of (as_integer d)
 number_is LineNames d = never_of (as_integer d)
@@ -119,6 +127,7 @@ kind_is (UpTo limit) d = none_is (as_integer d)
 kind_is Address d = none_is (as_integer d)
 kind_is PutAddress d = none_is (as_integer d)
 kind_is Size d = none_is (as_integer d)
+kind_is LatchedBits d = none_is (as_integer d)
 kind_is ModeName d = none_is (option_and_then named_mode (as_str d))
 kind_is FlagLetters d = letters_is (as_str d)
 kind_is LineNames d = lines_is (items_at d)
@@ -264,10 +273,10 @@ pub found_is : (ms : Members) (s : MachineSpot) (f : MachineFileFault) → found
 found_is ms (spot.Own part) f = part_is file_shape part ms f
 found_is ms spot.FlagTwice f =
     beside Twice f (has_letter_twice (get_member (codes "flags") ms)) (IsLetterTwice ms) (letter_is (get_member (codes "flags") ms))
-found_is ms spot.NoRegisters f =
-    beside WrongKind f (is_no_table (get_member (codes "registers") ms)) _ (no_table_is (get_member (codes "registers") ms))
-found_is ms (spot.Register part) f =
-    holds_inside as_table (λ t. part_gives register_shape part t f) (λ t. PartFault register_shape part t f) (λ t. part_is register_shape part t f) (get_member (codes "registers") ms)
+found_is ms (spot.NoInner table) f =
+    beside WrongKind f (is_no_table (get_member (table_key table) ms)) _ (no_table_is (get_member (table_key table) ms))
+found_is ms (spot.Inner table part) f =
+    holds_inside as_table (λ t. part_gives (shape_of table) part t f) (λ t. PartFault (shape_of table) part t f) (λ t. part_is (shape_of table) part t f) (get_member (table_key table) ms)
 found_is ms (spot.NoList list) f =
     beside WrongKind f (is_no_list (get_member (list_key list) ms)) _ (no_list_is (get_member (list_key list) ms))
 found_is ms (spot.NoTable list n) f =

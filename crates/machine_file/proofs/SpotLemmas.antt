@@ -1,6 +1,6 @@
 -- A machine file's document has a fault exactly where some spot has it.
 use Rattle.std.proofs.Common.{◌≡◌, ℕ, ◌≤◌, ◌⊎◌, ◌↔◌, true, false, List, [], Option, Some, None, IsSomeAnd, MatchOption, Any, inl, inr, refl, sym}
-use Rattle.std.specs.Prelude.{⊤, codes, unwrap_or}
+use Rattle.std.specs.Prelude.{⊤, unwrap_or}
 use Rattle.std.specs.Borrow.{Bor}
 use Rattle.std.specs.List.{slice_get}
 use Rattle.std.specs.Option.{option_and_then}
@@ -9,14 +9,16 @@ use Rattle.std.proofs.lemmas.Option.{none-some}
 use Rattle.toml.specs.Data.{Data, Members, as_table, get_member}
 use Rattle.toml_reading.specs.Documents.{are_distinct, items_at}
 use Rattle.toml_reading.specs.Lowest.{AtKey, entries_at, number_of_entry, numbers_at}
-use Rattle.machine_file.specs.MachineFaultRules.{AreNoTables, HasMachineFault, IsNoTable, IsUnmappable, OfLimit, OfSomeTable, Shape, file_shape, register_shape}
-use Rattle.machine_file.specs.MachinePlaces.{AtEntry, AtNumber, IsAmongFirst, IsMachineFaultAt, KindFault, PartFault, differs, list_key, number_key, number_list, shape_in}
+use Rattle.machine_file.specs.MachineFaultRules.{AreNoTables, HasMachineFault, IsNoTable, IsUnmappable, OfLimit, OfSomeTable, Shape, file_shape}
+use Rattle.machine_file.specs.MachinePlaces.{AtEntry, AtNumber, IsAmongFirst, IsMachineFaultAt, KindFault, PartFault, differs, list_key, number_key, number_list, shape_in, shape_of, table_key}
 use Rattle.machine_file.specs.declared.machine_faults.MachineFileFault.{MachineFileFault}
 use Rattle.machine_file.specs.declared.machine_faults.MachineFileFault.TheVariants.{WrongKind, OutOfRange, Twice}
 use Rattle.machine_file.specs.declared.spots.EntryNumber.{EntryNumber}
 use Rattle.machine_file.specs.declared.spots.EntryNumber.TheVariants as number
 use Rattle.machine_file.specs.declared.spots.MachineList.{MachineList}
 use Rattle.machine_file.specs.declared.spots.MachineList.TheVariants.{Pages, Events, Words}
+use Rattle.machine_file.specs.declared.spots.MachineTable.{MachineTable}
+use Rattle.machine_file.specs.declared.spots.MachineTable.TheVariants.{Registers, Ioc, Vidc}
 use Rattle.machine_file.specs.declared.spots.MachineSpot.{MachineSpot}
 use Rattle.machine_file.specs.declared.spots.MachineSpot.TheVariants as spot
 use Rattle.machine_file.specs.declared.spots.Part.{Part}
@@ -90,22 +92,24 @@ module _ (ms : Members) (f : MachineFileFault) where
             (of_some (λ u. PartFault (shape_in list) p.0 u f) (as_table d.0) t.0 t.1 p.1),
       )
 
-  registered : AtKey (codes "registers") ms (In (ShapeFault f register_shape)) → SpotOf
-  registered h =
-      let d = in_some (In (ShapeFault f register_shape)) (get_member (codes "registers") ms) h in
-      let t = in_some (ShapeFault f register_shape) (as_table d.0) d.2 in
-      let p = shape_part register_shape t.0 t.2 in (
-        spot.Register p.0,
-        of_some (λ e. IsSomeAnd (as_table e) (λ u. PartFault register_shape p.0 u f)) (get_member (codes "registers") ms) d.0 d.1
-            (of_some (λ u. PartFault register_shape p.0 u f) (as_table d.0) t.0 t.1 p.1),
+  inner : (table : MachineTable) → AtKey (table_key table) ms (In (ShapeFault f (shape_of table))) → SpotOf
+  inner table h =
+      let d = in_some (In (ShapeFault f (shape_of table))) (get_member (table_key table) ms) h in
+      let t = in_some (ShapeFault f (shape_of table)) (as_table d.0) d.2 in
+      let p = shape_part (shape_of table) t.0 t.2 in (
+        spot.Inner table p.0,
+        of_some (λ e. IsSomeAnd (as_table e) (λ u. PartFault (shape_of table) p.0 u f)) (get_member (table_key table) ms) d.0 d.1
+            (of_some (λ u. PartFault (shape_of table) p.0 u f) (as_table d.0) t.0 t.1 p.1),
       )
 
   of_table : OfSomeTable (ShapeFault f) ms → SpotOf
   of_table (inl h) = let p = shape_part file_shape ms h in (spot.Own p.0, p.1)
-  of_table (inr (inl h)) = registered h
+  of_table (inr (inl h)) = inner Registers h
   of_table (inr (inr (inl h))) = listed Pages h
   of_table (inr (inr (inr (inl h)))) = listed Events h
-  of_table (inr (inr (inr (inr h)))) = listed Words h
+  of_table (inr (inr (inr (inr (inl h))))) = listed Words h
+  of_table (inr (inr (inr (inr (inr (inl h)))))) = inner Ioc h
+  of_table (inr (inr (inr (inr (inr (inr h)))))) = inner Vidc h
 
   -- the value of a list's key is no list, or an entry is no table
   abbrev NoTablesAt : Option Data → Type 0
@@ -134,10 +138,12 @@ module _ (ms : Members) (f : MachineFileFault) where
   ]
 
   of_no_table : NoTables ms f → f ≡ WrongKind → SpotOf
-  of_no_table (inl h) e = (spot.NoRegisters, (h, e))
+  of_no_table (inl h) e = (spot.NoInner Registers, (h, e))
   of_no_table (inr (inl h)) e = no_table_in Pages e h
   of_no_table (inr (inr (inl h))) e = no_table_in Events e h
-  of_no_table (inr (inr (inr h))) e = no_table_in Words e h
+  of_no_table (inr (inr (inr (inl h)))) e = no_table_in Words e h
+  of_no_table (inr (inr (inr (inr (inl h))))) e = (spot.NoInner Ioc, (h, e))
+  of_no_table (inr (inr (inr (inr (inr h))))) e = (spot.NoInner Vidc, (h, e))
 
   -- ## Numbers
 
@@ -184,7 +190,12 @@ module _ (ms : Members) (f : MachineFileFault) where
   in_list : (list : MachineList) → Any (In (ShapeFault f (shape_in list))) (entries_at (list_key list) ms) → TablesFault ms f
   in_list Pages h = inl (inr (inr (inl h)))
   in_list Events h = inl (inr (inr (inr (inl h))))
-  in_list Words h = inl (inr (inr (inr (inr h))))
+  in_list Words h = inl (inr (inr (inr (inr (inl h)))))
+
+  in_inner : (table : MachineTable) → AtKey (table_key table) ms (In (ShapeFault f (shape_of table))) → TablesFault ms f
+  in_inner Registers h = inl (inr (inl h))
+  in_inner Ioc h = inl (inr (inr (inr (inr (inr (inl h))))))
+  in_inner Vidc h = inl (inr (inr (inr (inr (inr (inr h))))))
 
   -- the fault of a table
   part_in : (shape : Shape) (p : Part) (d : Data) → IsSomeAnd (as_table d) (λ t. PartFault shape p t f) → In (ShapeFault f shape) d
@@ -200,15 +211,20 @@ module _ (ms : Members) (f : MachineFileFault) where
       (index_any (In (ShapeFault f (shape_in list))) (entries_at (list_key list) ms) n
       (of_some (In (ShapeFault f (shape_in list))) at d.0 d.1 (part_in (shape_in list) p d.0 d.2)))
 
-  of_registers : (p : Part) → AtKey (codes "registers") ms (λ d. IsSomeAnd (as_table d) (λ t. PartFault register_shape p t f)) → TablesFault ms f
-  of_registers p h =
-      let d = in_some (λ d. IsSomeAnd (as_table d) (λ t. PartFault register_shape p t f)) (get_member (codes "registers") ms) h in
-      inl (inr (inl (of_some (In (ShapeFault f register_shape)) (get_member (codes "registers") ms) d.0 d.1 (part_in register_shape p d.0 d.2))))
+  of_inner : (table : MachineTable) (p : Part) → AtKey (table_key table) ms (λ d. IsSomeAnd (as_table d) (λ t. PartFault (shape_of table) p t f)) → TablesFault ms f
+  of_inner table p h =
+      let d = in_some (λ d. IsSomeAnd (as_table d) (λ t. PartFault (shape_of table) p t f)) (get_member (table_key table) ms) h in
+      in_inner table (of_some (In (ShapeFault f (shape_of table))) (get_member (table_key table) ms) d.0 d.1 (part_in (shape_of table) p d.0 d.2))
+
+  of_no_inner : (table : MachineTable) → f ≡ WrongKind → AtKey (table_key table) ms IsNoTable → TablesFault ms f
+  of_no_inner Registers e h = inr (inl (inl h, e))
+  of_no_inner Ioc e h = inr (inl (inr (inr (inr (inr (inl h)))), e))
+  of_no_inner Vidc e h = inr (inl (inr (inr (inr (inr (inr h)))), e))
 
   no_tables_in : (list : MachineList) → f ≡ WrongKind → AtKey (list_key list) ms AreNoTables → TablesFault ms f
   no_tables_in Pages e h = inr (inl (inr (inl h), e))
   no_tables_in Events e h = inr (inl (inr (inr (inl h)), e))
-  no_tables_in Words e h = inr (inl (inr (inr (inr h)), e))
+  no_tables_in Words e h = inr (inl (inr (inr (inr (inl h))), e))
 
   of_unmappable : (number : EntryNumber) (n : ℕ) → f ≡ OutOfRange → OfLimit number ms (λ limit. AtNumber number n ms (λ a. limit ≤ a)) → TablesFault ms f
   of_unmappable number.Logical n e h =
@@ -234,8 +250,8 @@ module _ (ms : Members) (f : MachineFileFault) where
   of_spot : (s : MachineSpot) → IsMachineFaultAt ms s f → TablesFault ms f
   of_spot (spot.Own p) h = inl (inl (part_shape file_shape p ms h))
   of_spot spot.FlagTwice h = inr (inr (inr (inl h.0, h.1)))
-  of_spot spot.NoRegisters h = inr (inl (inl h.0, h.1))
-  of_spot (spot.Register p) h = of_registers p h
+  of_spot (spot.NoInner table) h = of_no_inner table h.1 h.0
+  of_spot (spot.Inner table p) h = of_inner table p h
   of_spot (spot.NoList list) h =
       no_tables_in list h.1 ((no_tables (get_member (list_key list) ms)).1 (inl h.0))
   of_spot (spot.NoTable list n) h =

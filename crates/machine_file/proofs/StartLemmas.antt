@@ -11,7 +11,11 @@ use Rattle.arm2_effect.specs.declared.modes.Reg.TheVariants.{R15}
 use Rattle.arm2_exec.specs.State.{IsReset, State, reset_r15, with_register_of}
 use Rattle.bus_ticks.specs.declared.profile.Profile.{Profile}
 use Rattle.memc.specs.Memory.{Memory}
-use Rattle.machine_file.specs.Started.{IsController, IsStarted, r15_in}
+use Rattle.ioc.specs.Interrupts as ioc
+use Rattle.ioc.specs.Interrupts.{Controller}
+use Rattle.vidc.specs.Video as vidc
+use Rattle.vidc.specs.Video.{Video}
+use Rattle.machine_file.specs.Started.{IsController, IsStarted, ioc_start, r15_in, vidc_start}
 use Rattle.machine_file.specs.StartWork.{with_words}
 use Rattle.machine_file.specs.Stated.{Stated}
 
@@ -49,13 +53,19 @@ last_set words regs r15 count is =
     ∙ ap (λ (k : ℕ). slice_set (words ++ reset_r15 ∷ []) k r15) (sym count)
     ∙ set-append_seam words reset_r15 [] r15
 
-pub started : (file : Stated) (profile : Profile) (shift r15 : ℕ) (words : List ℕ) (fresh filled whole : State) (memc : Memory) → IsReset shift profile fresh → filled ≡ with_words words fresh → whole ≡ with_register_of R15 r15 filled → words ≡ file.processor.registers → length words ≡ 26 → r15 ≡ r15_in file.processor → IsController file.controller memc → IsStarted file profile (record { regs = whole.regs; bus = record { memc = memc; ioc = whole.bus.ioc; vidc = whole.bus.vidc }; profile = whole.profile })
-started file profile shift r15 words fresh filled whole memc reset fill set words_are count r15_is controller =
+pub started : (file : Stated) (profile : Profile) (shift r15 : ℕ) (words : List ℕ) (fresh filled whole : State) (memc : Memory) (io : Controller) (video : Video) → IsReset shift profile fresh → filled ≡ with_words words fresh → whole ≡ with_register_of R15 r15 filled → words ≡ file.processor.registers → length words ≡ 26 → r15 ≡ r15_in file.processor → IsController file.controller memc → io ≡ ioc_start file.ioc → video ≡ vidc_start file.vidc → IsStarted file profile (record { regs = whole.regs; bus = record { memc = memc; ioc = io; vidc = video }; profile = whole.profile })
+started file profile shift r15 words fresh filled whole memc io video reset fill set words_are count r15_is controller ioc_is vidc_is =
     let is : whole ≡ with_register_of R15 r15 (with_words words fresh) = set ∙ ap (with_register_of R15 r15) fill in
     record {
       registers = ap (λ (s : State). s.regs) is ∙ last_set words fresh.regs r15 count reset.regs ∙ (λ i. words_are i ++ r15_is i ∷ []);
       memory = controller;
-      ioc = ap (λ (s : State). s.bus.ioc) is ∙ reset.ioc;
-      vidc = ap (λ (s : State). s.bus.vidc) is ∙ reset.vidc;
+      ioc = ioc_is;
+      vidc = vidc_is;
       prices = ap (λ (s : State). s.profile) is ∙ reset.prices;
     }
+
+-- the registers alone have been set
+pub devices_kept : (shift r15 : ℕ) (words : List ℕ) (profile : Profile) (start filled whole : State) → IsReset shift profile start → filled ≡ with_words words start → whole ≡ with_register_of R15 r15 filled → (whole.bus.ioc ≡ ioc.fresh) × (whole.bus.vidc ≡ vidc.fresh)
+devices_kept shift r15 words profile start filled whole reset fill set =
+    let is : whole ≡ with_register_of R15 r15 (with_words words start) = set ∙ ap (with_register_of R15 r15) fill in
+    (ap (λ (s : State). s.bus.ioc) is ∙ reset.ioc, ap (λ (s : State). s.bus.vidc) is ∙ reset.vidc)

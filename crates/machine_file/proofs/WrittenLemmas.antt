@@ -1,6 +1,6 @@
 -- What is read of the document of a machine file.
-use Rattle.std.proofs.Common.{◌≡◌, ℕ, suc, ◌+◌, ◌-◌, ◌^◌, ◌≤◌, ◌<◌, ◌&&◌, ◌++◌, not, eqb, ltb, Bool, true, false, List, [], ◌∷◌, length, map, replicate, codes, All, Some, Ok, inl, inr, refl, sym, ap, ◌∙◌, subst, arith}
-use Rattle.std.specs.Prelude.{IsTrue}
+use Rattle.std.proofs.Common.{◌≡◌, ℕ, suc, ◌+◌, ◌-◌, ◌^◌, ◌≤◌, ◌<◌, ◌&&◌, ◌++◌, not, eqb, ltb, Bool, true, false, List, [], ◌∷◌, length, map, replicate, codes, All, Option, Some, None, option_map, Ok, inl, inr, refl, sym, ap, ◌∙◌, subst, arith}
+use Rattle.std.specs.Prelude.{IfSome, IsTrue}
 use Rattle.std.specs.List.{AllByRecursion, AllZip, list_all, zip}
 use Rattle.std.specs.Str.{IsUtf8}
 use Rattle.std.proofs.lemmas.Bool.{and_parts, cases_Bool, eqb-true, ltb-true}
@@ -14,17 +14,18 @@ use Rattle.image.specs.Image.{may_hold}
 use Rattle.memc.specs.Memory.{shift_of_size}
 use Rattle.memc.specs.declared.spots.PageSize.{PageSize}
 use Rattle.memc.specs.declared.spots.PageSize.TheVariants.{K4}
-use Rattle.toml_reading.specs.Documents.{is_one_of}
-use Rattle.toml_reading.specs.Lowest.{AtKey, AtKeyOr, IsListOf, IsNamed, IsNumber}
+use Rattle.toml_reading.specs.Documents.{has_only_keys, is_one_of}
+use Rattle.toml_reading.specs.Lowest.{AtKey, AtKeyOr, IsListOf, IsNamed, IsNumber, IsTable}
 use Rattle.toml_reading.proofs.ReadingLemmas.{list_of-items_of}
-use Rattle.machine_file.specs.MachineFile.{IsMachineFile, has, is_letter, is_mappable, is_single, machine_in, set_flags}
-use Rattle.machine_file.specs.MachineRules.{AreFlags, AreRegisters, IsAddress, IsEvent, IsPage, IsPutWord, IsSize, IsPutAddress, StatesMachine}
-use Rattle.machine_file.specs.Words.{IsWord}
-use Rattle.machine_file.specs.Names.{file_keys, map_keys, name_of, named_mode, named_registers, register_keys, word_keys}
-use Rattle.machine_file.specs.Parts.{AreWords, IsInRange, HasNoneTwice}
-use Rattle.machine_file.specs.Stated.{Stated}
-use Rattle.machine_file.specs.Written.{Row, controller_rows, document_of, file_rows, letters_of, list_value, mode_name, number, page_data, page_rows, register_row, register_table, schedule_rows, table_of, table_value, unless_zero, word_data, word_list_rows, word_rows}
+use Rattle.machine_file.specs.MachineFile.{IsMachineFile, are_latched, has, is_letter, is_mappable, is_single, machine_in, set_flags}
+use Rattle.machine_file.specs.MachineRules.{AreFlags, AreRegisters, AreRequests, IsAddress, IsEvent, IsIoc, IsPage, IsPutWord, IsSize, IsPutAddress, IsVidc, StatesMachine, StatesTimer}
+use Rattle.machine_file.specs.Words.{HasNumber, IsWord, MayHaveNumber}
+use Rattle.machine_file.specs.Names.{file_keys, ioc_keys, map_keys, name_of, named_mode, named_registers, register_keys, vidc_keys, word_keys}
+use Rattle.machine_file.specs.Parts.{AreWords, IsInRange, IsIocInRange, IsVidcInRange, HasNoneTwice}
+use Rattle.machine_file.specs.Stated.{IocSetting, Stated, VidcSetting, no_ioc, no_vidc}
+use Rattle.machine_file.specs.Written.{Row, controller_rows, device_rows, document_of, file_rows, ioc_rows, letters_of, list_value, mode_name, number, page_data, page_rows, register_row, register_table, schedule_rows, table_of, table_value, unless_zero, vidc_rows, word_data, word_list_rows, word_rows}
 use Rattle.machine_file.specs.declared.flags.PsrFlags.{PsrFlags}
+use Rattle.machine_file.specs.declared.ioc_settings.TimerSetting.{TimerSetting}
 use Rattle.machine_file.specs.declared.pages.MappedPage.{MappedPage}
 use Rattle.machine_file.proofs.KeyTableLemmas.{machine_stated}
 use Rattle.machine_file.proofs.TableOfLemmas.{Found, all_differ, depth_of_table, found_in_table, known_in_table, missing_in_table, optional_depth, row_keys}
@@ -238,19 +239,136 @@ module _ {A : Type 0} (States : Data → A → Type 0) (data_of : A → Data) (k
   listed_stated (x ∷ xs) there h =
       rw there (h.0, subst (λ ds. AllZip States ds xs) (sym (list_of-items_of (map data_of xs))) h.1)
 
+-- ## The devices
+
+number_stated : (limit n : ℕ) (key : List ℕ) (t : Members) → n ≤ limit → get_member key t ≡ unless_zero n
+    → HasNumber key limit t n
+number_stated limit n key t low there = elim (cases_Bool (eqb n 0)) [
+  | inl none ↦ rw (there, none) (eqb-true n 0 none)
+  | inr some ↦ rw (there, some) (refl, low)
+]
+
+may_number_stated : (limit : ℕ) (o : Option ℕ) (key : List ℕ) (t : Members) → IfSome o (λ n. n ≤ limit)
+    → get_member key t ≡ option_map number o → MayHaveNumber key limit t o
+may_number_stated limit None key t low there = rw there refl
+may_number_stated limit (Some n) key t low there = rw there (refl, low)
+
+requests_stated : (n : ℕ) (t : Members) → IsTrue (are_latched n) → get_member (codes "requests_a") t ≡ unless_zero n
+    → AtKeyOr (codes "requests_a") t (n ≡ 0) (λ e. AreRequests e n)
+requests_stated n t latched there = elim (cases_Bool (eqb n 0)) [
+  | inl none ↦ rw (there, none) (eqb-true n 0 none)
+  | inr some ↦ rw (there, some) (refl, latched)
+]
+
+-- a table that is left out where it is empty, and then states what is missing
+module _ {A : Type 0} (keys : List (List ℕ)) (States : Members → A → Type 0) (missing : A) (a : A) (key : List ℕ) where
+  device_stated : ((b : A) → States no_members b → b ≡ missing) → (t : Members) → has_only_keys keys t ≡ true → States t a
+      → (ms : Members) → get_member key ms ≡ table_value t
+      → AtKeyOr key ms (a ≡ missing) (λ d. IsTable keys (λ u. States u a) d)
+  device_stated none no_members known s ms there = rw there (none a s)
+  device_stated none (member k d t) known s ms there = rw there (known, s)
+
+abbrev IocStates : Members → IocSetting → Type 0
+IocStates t s =
+    HasNumber (codes "mask_a") 0xFF t s.mask_a
+    × HasNumber (codes "mask_b") 0xFF t s.mask_b
+    × HasNumber (codes "mask_fiq") 0xFF t s.mask_fiq
+    × AtKeyOr (codes "requests_a") t (s.requests_a ≡ 0) (λ e. AreRequests e s.requests_a)
+    × StatesTimer (codes "timer_0") (codes "count_0") t s.timer_0
+    × StatesTimer (codes "timer_1") (codes "count_1") t s.timer_1
+
+timer_made : (t : TimerSetting) → t.latch ≡ 0 → t.count ≡ None → t ≡ record { latch = 0; count = None }
+timer_made t a b i = record { latch = a i; count = b i }
+
+ioc_missing : (s : IocSetting) → IocStates no_members s → s ≡ no_ioc
+ioc_missing s h i =
+    record {
+      mask_a = h.0 i;
+      mask_b = h.1 i;
+      mask_fiq = h.2 i;
+      requests_a = h.3 i;
+      timer_0 = timer_made s.timer_0 h.4.0 h.4.1 i;
+      timer_1 = timer_made s.timer_1 h.5.0 h.5.1 i;
+    }
+
+module _ (s : IocSetting) (range : IsIocInRange s) where
+  ioc_found : Found (table_of (ioc_rows s)) (ioc_rows s)
+  ioc_found = found_in_table (ioc_rows s) refl
+
+  ioc_keys_stated : IocStates (table_of (ioc_rows s)) s
+  ioc_keys_stated =
+      let t : Members = table_of (ioc_rows s) in
+      let timers = ioc_found.1.1.1.1 in (
+        number_stated 0xFF s.mask_a (codes "mask_a") t range.mask_a ioc_found.0,
+        number_stated 0xFF s.mask_b (codes "mask_b") t range.mask_b ioc_found.1.0,
+        number_stated 0xFF s.mask_fiq (codes "mask_fiq") t range.mask_fiq ioc_found.1.1.0,
+        requests_stated s.requests_a t range.requests_a ioc_found.1.1.1.0,
+        (
+          number_stated 0xFFFF s.timer_0.latch (codes "timer_0") t range.latch_0 timers.0,
+          may_number_stated 0xFFFF s.timer_0.count (codes "count_0") t range.count_0 timers.1.0,
+        ),
+        (
+          number_stated 0xFFFF s.timer_1.latch (codes "timer_1") t range.latch_1 timers.1.1.0,
+          may_number_stated 0xFFFF s.timer_1.count (codes "count_1") t range.count_1 timers.1.1.1.0,
+        ),
+      )
+
+  ioc_stated : (ms : Members) → get_member (codes "ioc") ms ≡ table_value (table_of (ioc_rows s))
+      → AtKeyOr (codes "ioc") ms (s ≡ no_ioc) (λ d. IsIoc d s)
+  ioc_stated =
+      device_stated ioc_keys IocStates no_ioc s (codes "ioc") ioc_missing (table_of (ioc_rows s)) (known_in_table ioc_keys (ioc_rows s) refl) ioc_keys_stated
+
+abbrev VidcStates : Members → VidcSetting → Type 0
+VidcStates t s =
+    MayHaveNumber (codes "horizontal_cycle") 0x3FF t s.horizontal_cycle
+    × MayHaveNumber (codes "vertical_cycle") 0x3FF t s.vertical_cycle
+    × HasNumber (codes "display_end") 0x3FF t s.display_end
+    × HasNumber (codes "pixel_rate") 3 t s.pixel_rate
+    × HasNumber (codes "ticks") (2 ^ 32 - 1) t s.ticks
+
+vidc_missing : (s : VidcSetting) → VidcStates no_members s → s ≡ no_vidc
+vidc_missing s h i =
+    record {
+      horizontal_cycle = h.0 i;
+      vertical_cycle = h.1 i;
+      display_end = h.2 i;
+      pixel_rate = h.3 i;
+      ticks = h.4 i;
+    }
+
+module _ (s : VidcSetting) (range : IsVidcInRange s) where
+  vidc_found : Found (table_of (vidc_rows s)) (vidc_rows s)
+  vidc_found = found_in_table (vidc_rows s) refl
+
+  vidc_keys_stated : VidcStates (table_of (vidc_rows s)) s
+  vidc_keys_stated =
+      let t : Members = table_of (vidc_rows s) in
+      let ticks : s.ticks < 2 ^ 32 = range.ticks in (
+        may_number_stated 0x3FF s.horizontal_cycle (codes "horizontal_cycle") t range.horizontal_cycle vidc_found.0,
+        may_number_stated 0x3FF s.vertical_cycle (codes "vertical_cycle") t range.vertical_cycle vidc_found.1.0,
+        number_stated 0x3FF s.display_end (codes "display_end") t range.display_end vidc_found.1.1.0,
+        number_stated 3 s.pixel_rate (codes "pixel_rate") t range.pixel_rate vidc_found.1.1.1.0,
+        number_stated (2 ^ 32 - 1) s.ticks (codes "ticks") t (omega (arith, ticks)) vidc_found.1.1.1.1.0,
+      )
+
+  vidc_stated : (ms : Members) → get_member (codes "vidc") ms ≡ table_value (table_of (vidc_rows s))
+      → AtKeyOr (codes "vidc") ms (s ≡ no_vidc) (λ d. IsVidc d s)
+  vidc_stated =
+      device_stated vidc_keys VidcStates no_vidc s (codes "vidc") vidc_missing (table_of (vidc_rows s)) (known_in_table vidc_keys (vidc_rows s) refl) vidc_keys_stated
+
 -- ## The file
 
-module _ (s : Stated) (none : s.schedule.events ≡ []) (range : IsInRange s) (once : HasNoneTwice s) (words : AreWords s) (small : All (λ w. w.1 < 2 ^ 32) s.words) where
+module _ (s : Stated) (none : s.schedule.events ≡ []) (range : IsInRange s) (once : HasNoneTwice s) (words : AreWords s) (small : All (λ w. w.1 < 2 ^ 32) s.words) (ioc_range : IsIocInRange s.ioc) (vidc_range : IsVidcInRange s.vidc) where
   abbrev ms : Members
   ms = document_of s
 
   found : Found ms (file_rows s)
   found = found_in_table (file_rows s) refl
 
-  rest : Found ms (controller_rows s.controller ++ schedule_rows s.schedule ++ word_list_rows s.words)
+  rest : Found ms (controller_rows s.controller ++ schedule_rows s.schedule ++ word_list_rows s.words ++ device_rows s.ioc s.vidc)
   rest = found.1.1.1.1
 
-  last : Found ms (schedule_rows s.schedule ++ word_list_rows s.words)
+  last : Found ms (schedule_rows s.schedule ++ word_list_rows s.words ++ device_rows s.ioc s.vidc)
   last = rest.1.1.1.1
 
   no_events : AtKeyOr (codes "event") ms (s.schedule.events ≡ []) (λ d. IsListOf IsEvent d s.schedule.events)
@@ -281,6 +399,8 @@ module _ (s : Stated) (none : s.schedule.events ≡ []) (range : IsInRange s) (o
     };
     words = listed_stated IsPutWord word_data (codes "word") ms s.words last.1.1.0 (put_words_stated s.words range.held small);
     words_once = once.words_once;
+    ioc = ioc_stated s.ioc ioc_range ms last.1.1.1.0;
+    vidc = vidc_stated s.vidc vidc_range ms last.1.1.1.1.0;
   }
 
   document_reads : machine_in ms ≡ Ok s
@@ -322,20 +442,46 @@ word_depth w =
     let low : members_depth (table_of (word_rows w)) ≤ 0 = depth_of_table 0 (word_rows w) (omega arith, (omega arith, tt)) in
     omega (arith, low)
 
+some_number_depth : (o : Option ℕ) → optional_depth (option_map number o) ≤ 0
+some_number_depth None = omega arith
+some_number_depth (Some n) = omega arith
+
+ioc_depth : (s : IocSetting) → optional_depth (table_value (table_of (ioc_rows s))) ≤ 1
+ioc_depth s =
+    table_value_depth 0 (table_of (ioc_rows s)) (depth_of_table 0 (ioc_rows s) (
+      zero_depth s.mask_a,
+      (
+        zero_depth s.mask_b,
+        (
+          zero_depth s.mask_fiq,
+          (
+            zero_depth s.requests_a,
+            (zero_depth s.timer_0.latch, (some_number_depth s.timer_0.count, (zero_depth s.timer_1.latch, (some_number_depth s.timer_1.count, tt)))),
+          ),
+        ),
+      ),
+    ))
+
+vidc_depth : (s : VidcSetting) → optional_depth (table_value (table_of (vidc_rows s))) ≤ 1
+vidc_depth s =
+    table_value_depth 0 (table_of (vidc_rows s)) (depth_of_table 0 (vidc_rows s)
+    (some_number_depth s.horizontal_cycle, (some_number_depth s.vertical_cycle, (zero_depth s.display_end, (zero_depth s.pixel_rate, (zero_depth s.ticks, tt))))))
+
 document_depth : (s : Stated) → members_depth (document_of s) ≤ 2
 document_depth s =
     let none : 0 ≤ 2 = omega arith in
     let registers : optional_depth (table_value (register_table s.processor.registers)) ≤ 2 = omega (arith, table_value_depth 0 (register_table s.processor.registers) (depth_of_table 0 _ (register_depths register_keys s.processor.registers))) in
-    depth_of_table 2 (file_rows s) (none, (none, (none, (registers, (none, (none, (none, (listed_depth page_data page_depth s.controller.pages, (none, (none, (listed_depth word_data word_depth s.words, tt)))))))))))
+    depth_of_table 2 (file_rows s) (none, (none, (none, (registers, (none, (none, (none, (listed_depth page_data page_depth s.controller.pages, (none, (none, (listed_depth word_data word_depth s.words, (omega (arith, ioc_depth s.ioc), (omega (arith, vidc_depth s.vidc), tt)))))))))))))
 
 -- ## The text
 
 pub text_reads : (text : List ℕ) (s : Stated) → IsUtf8 text
     → (members_depth (document_of s) ≤ 80 → parse_document text ≡ Some (document_of s))
-    → s.schedule.events ≡ [] → IsInRange s → HasNoneTwice s → AreWords s → All (λ w. w.1 < 2 ^ 32) s.words → IsMachineFile text (Ok s)
-text_reads text s utf8 parsed none range once words small =
+    → s.schedule.events ≡ [] → IsInRange s → HasNoneTwice s → AreWords s → All (λ w. w.1 < 2 ^ 32) s.words
+    → IsIocInRange s.ioc → IsVidcInRange s.vidc → IsMachineFile text (Ok s)
+text_reads text s utf8 parsed none range once words small ioc vidc =
     inl (
       document_of s,
       record { utf8 = utf8; parsed = parsed (omega (arith, document_depth s)) },
-      sym (document_reads s none range once words small),
+      sym (document_reads s none range once words small ioc vidc),
     )

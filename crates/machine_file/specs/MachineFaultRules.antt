@@ -11,17 +11,17 @@ use Rattle.memc.specs.declared.spots.PageSize.TheVariants.{K4}
 use Rattle.toml_reading.specs.Documents.{are_distinct, has_only_keys, items_at}
 use Rattle.toml_reading.specs.Lowest.{AtKey, AtKeyOr, IsNoAddress, IsOutside, NamesNothing, entries_at}
 use Rattle.toml_reading.specs.Lowest.{numbers_at}
-use Rattle.machine_file.specs.MachineFile.{is_letter, is_single}
+use Rattle.machine_file.specs.MachineFile.{are_latched, is_letter, is_single}
 use Rattle.ioc.specs.LineNames.{line_named}
 use Rattle.machine_file.specs.MachineRules.{IsSize, kilobytes}
-use Rattle.machine_file.specs.Names.{event_keys, file_keys, map_keys, name_of, named_mode, named_registers}
-use Rattle.machine_file.specs.Names.{register_keys, word_keys}
+use Rattle.machine_file.specs.Names.{event_keys, file_keys, ioc_keys, map_keys, name_of, named_mode}
+use Rattle.machine_file.specs.Names.{named_registers, register_keys, vidc_keys, word_keys}
 use Rattle.machine_file.specs.declared.machine_faults.MachineFileFault.{MachineFileFault}
 use Rattle.machine_file.specs.declared.machine_faults.MachineFileFault.TheVariants.{UnknownKey, WrongKind}
 use Rattle.machine_file.specs.declared.machine_faults.MachineFileFault.TheVariants.{OutOfRange, Twice}
 use Rattle.machine_file.specs.declared.rows.Takes.{Takes}
 use Rattle.machine_file.specs.declared.rows.Takes.TheVariants.{UpTo, Address, PutAddress, Size, ModeName}
-use Rattle.machine_file.specs.declared.rows.Takes.TheVariants.{FlagLetters, LineNames}
+use Rattle.machine_file.specs.declared.rows.Takes.TheVariants.{FlagLetters, LatchedBits, LineNames}
 use Rattle.machine_file.specs.declared.spots.EntryNumber.{EntryNumber}
 use Rattle.machine_file.specs.declared.spots.EntryNumber.TheVariants as number
 
@@ -86,9 +86,37 @@ abbrev pub put_word_shape : Shape
 put_word_shape =
     record { keys = word_keys; rows = needs (codes "at") PutAddress ∷ needs (codes "value") Word ∷ [] }
 
+abbrev pub ioc_shape : Shape
+ioc_shape = record {
+  keys = ioc_keys;
+  rows =
+      may_have (codes "mask_a") (UpTo 0xFF)
+      ∷ may_have (codes "mask_b") (UpTo 0xFF)
+      ∷ may_have (codes "mask_fiq") (UpTo 0xFF)
+      ∷ may_have (codes "requests_a") LatchedBits
+      ∷ may_have (codes "timer_0") (UpTo 0xFFFF)
+      ∷ may_have (codes "count_0") (UpTo 0xFFFF)
+      ∷ may_have (codes "timer_1") (UpTo 0xFFFF)
+      ∷ may_have (codes "count_1") (UpTo 0xFFFF)
+      ∷ [];
+}
+
+abbrev pub vidc_shape : Shape
+vidc_shape = record {
+  keys = vidc_keys;
+  rows =
+      may_have (codes "horizontal_cycle") (UpTo 0x3FF)
+      ∷ may_have (codes "vertical_cycle") (UpTo 0x3FF)
+      ∷ may_have (codes "display_end") (UpTo 0x3FF)
+      ∷ may_have (codes "pixel_rate") (UpTo 3)
+      ∷ may_have (codes "ticks") Word
+      ∷ [];
+}
+
 -- ## The tables of a file
 
--- that holds of a table of the file: of its own, of `registers`, or of one in `map`, `event` or `word`
+-- that holds of a table of the file: of its own, of one in `map`, `event` or `word`, or of `registers`, `ioc`
+-- or `vidc`
 abbrev pub OfSomeTable : (Shape → Members → Type 0) → Members → Type 0
 OfSomeTable P ms =
     P file_shape ms
@@ -96,6 +124,8 @@ OfSomeTable P ms =
     ⊎ Any (λ d. IsSomeAnd (as_table d) (P map_shape)) (entries_at (codes "map") ms)
     ⊎ Any (λ d. IsSomeAnd (as_table d) (P event_shape)) (entries_at (codes "event") ms)
     ⊎ Any (λ d. IsSomeAnd (as_table d) (P put_word_shape)) (entries_at (codes "word") ms)
+    ⊎ AtKey (codes "ioc") ms (λ d. IsSomeAnd (as_table d) (P ioc_shape))
+    ⊎ AtKey (codes "vidc") ms (λ d. IsSomeAnd (as_table d) (P vidc_shape))
 
 -- ## A key that its table may not have
 
@@ -114,6 +144,7 @@ IsOtherKind (UpTo limit) d = as_integer d ≡ None
 IsOtherKind Address d = as_integer d ≡ None
 IsOtherKind PutAddress d = as_integer d ≡ None
 IsOtherKind Size d = as_integer d ≡ None
+IsOtherKind LatchedBits d = as_integer d ≡ None
 IsOtherKind ModeName d = NamesNothing named_mode d
 IsOtherKind FlagLetters d = MatchOption (as_str d) ⊤ (λ text. list_all is_letter text ≡ false)
 IsOtherKind LineNames d = MatchOption (items_at d) ⊤ (Any (NamesNothing line_named))
@@ -136,6 +167,8 @@ HasWrongKind ms =
     ⊎ AtKey (codes "map") ms AreNoTables
     ⊎ AtKey (codes "event") ms AreNoTables
     ⊎ AtKey (codes "word") ms AreNoTables
+    ⊎ AtKey (codes "ioc") ms IsNoTable
+    ⊎ AtKey (codes "vidc") ms IsNoTable
 
 -- ## A number that its key does not take, or a page that cannot be mapped
 
@@ -143,11 +176,16 @@ HasWrongKind ms =
 abbrev pub IsNoPutAddress : ℤ → Type 0
 IsNoPutAddress z = (n : ℕ) → z ≡ pos n → ¬ IsTrue (may_hold n)
 
+-- no byte, or one with another bit than those that are latched
+abbrev pub AreNoRequests : ℤ → Type 0
+AreNoRequests z = (n : ℕ) → z ≡ pos n → ¬ IsTrue (are_latched n)
+
 abbrev pub IsOtherNumber : Takes → Data → Type 0
 IsOtherNumber (UpTo limit) d = IsSomeAnd (as_integer d) (IsOutside limit)
 IsOtherNumber Address d = IsSomeAnd (as_integer d) IsNoAddress
 IsOtherNumber PutAddress d = IsSomeAnd (as_integer d) IsNoPutAddress
 IsOtherNumber Size d = IsSomeAnd (as_integer d) (λ z. (size : PageSize) → z ≢ pos (kilobytes size))
+IsOtherNumber LatchedBits d = IsSomeAnd (as_integer d) AreNoRequests
 IsOtherNumber _ d = ⊥
 
 abbrev pub HasOtherNumber : Shape → Members → Type 0

@@ -11,6 +11,7 @@ use Rattle.arm2_effect.specs.declared.modes.Mode.{Mode}
 use Rattle.arm2_effect.specs.declared.modes.Mode.TheVariants.{Svc}
 use Rattle.arm2_effect.specs.declared.modes.Reg.{Reg}
 use Rattle.ioc.specs.declared.lines.Lines.{Lines}
+use Rattle.ioc.specs.Interrupts.{has as has_bits}
 use Rattle.image.specs.Image.{may_hold}
 use Rattle.memc.specs.Memory.{can_map, shift_of_size}
 use Rattle.memc.specs.declared.spots.PageSize.{PageSize}
@@ -20,12 +21,14 @@ use Rattle.toml_reading.specs.Documents.{number_in, number_or, of_keys, once, ta
 use Rattle.toml_reading.specs.Readings.{Reading, all, and_then, pair, optional, required, reading_map}
 use Rattle.ioc.specs.LineNames.{line_named}
 use Rattle.machine_file.specs.MachineFaults.{machine_faults}
-use Rattle.machine_file.specs.Names.{event_keys, file_keys, map_keys, name_of, named_mode}
-use Rattle.machine_file.specs.Names.{named_registers, register_keys, word_keys}
-use Rattle.machine_file.specs.Stated.{Controller, Processor, Schedule, Stated}
-use Rattle.machine_file.specs.Words.{word_at, word_in, word_or}
+use Rattle.machine_file.specs.Names.{event_keys, file_keys, ioc_keys, map_keys, name_of, named_mode}
+use Rattle.machine_file.specs.Names.{named_registers, register_keys, vidc_keys, word_keys}
+use Rattle.machine_file.specs.Stated.{Controller, IocSetting, Processor, Schedule, Stated, VidcSetting}
+use Rattle.machine_file.specs.Stated.{no_ioc, no_vidc}
+use Rattle.machine_file.specs.Words.{number_if, word_at, word_in, word_or}
 use Rattle.machine_file.specs.declared.events.Event.{Event}
 use Rattle.machine_file.specs.declared.flags.PsrFlags.{PsrFlags}
+use Rattle.machine_file.specs.declared.ioc_settings.TimerSetting.{TimerSetting}
 use Rattle.machine_file.specs.declared.machine_faults.MachineFileFault.{MachineFileFault}
 use Rattle.machine_file.specs.declared.machine_faults.MachineFileFault.TheVariants.{NotToml, WrongKind}
 use Rattle.machine_file.specs.declared.machine_faults.MachineFileFault.TheVariants.{OutOfRange, Twice}
@@ -261,10 +264,124 @@ abbrev pub put_words_in : Members → Read (List (ℕ × ℕ))
 put_words_in ms =
     and_then (tables_at machine_faults put_word_at (get_member (codes "word") ms)) (once Twice keys_of)
 
+-- ## IOC
+
+-- a byte that has no other bits than those of IRQ A's four latched requests: 2 A2, 3 flyback, 5 and 6
+-- timers 0 and 1
+abbrev pub are_latched : ℕ → Bool
+are_latched n = nat_le n 0xFF && has_bits 0x6C n
+
+abbrev pub requests_of : ℤ → Read ℕ
+requests_of (pos n) = if are_latched n then Ok n else Err OutOfRange
+requests_of (negsuc n) = Err OutOfRange
+
+abbrev pub requests_at : Data → Read ℕ
+requests_at d = required machine_faults (as_integer d) requests_of
+
+abbrev pub requests_in : Members → Read ℕ
+requests_in ms = optional 0 (get_member (codes "requests_a") ms) requests_at
+
+abbrev pub timer_of : ℕ × Option ℕ → TimerSetting
+timer_of p = record { latch = p.0; count = p.1 }
+
+abbrev pub timer_in : (latch count : List ℕ) → Members → Read TimerSetting
+timer_in latch count ms =
+    reading_map timer_of
+    (pair machine_faults (number_or machine_faults latch 0xFFFF 0 ms)
+    (number_if machine_faults count 0xFFFF ms))
+
+abbrev pub ioc_with : ((ℕ × ℕ) × (ℕ × ℕ)) × (TimerSetting × TimerSetting) → IocSetting
+ioc_with p =
+    record {
+      mask_a = p.0.0.0;
+      mask_b = p.0.0.1;
+      mask_fiq = p.0.1.0;
+      requests_a = p.0.1.1;
+      timer_0 = p.1.0;
+      timer_1 = p.1.1;
+    }
+
+abbrev pub mask_in : List ℕ → Members → Read ℕ
+mask_in key ms = number_or machine_faults key 0xFF 0 ms
+
+abbrev pub bytes_in : Members → Read ((ℕ × ℕ) × (ℕ × ℕ))
+bytes_in ms =
+    pair machine_faults (pair machine_faults (mask_in (codes "mask_a") ms) (mask_in (codes "mask_b") ms))
+    (pair machine_faults (mask_in (codes "mask_fiq") ms) (requests_in ms))
+
+abbrev pub timers_in : Members → Read (TimerSetting × TimerSetting)
+timers_in ms =
+    pair machine_faults (timer_in (codes "timer_0") (codes "count_0") ms)
+    (timer_in (codes "timer_1") (codes "count_1") ms)
+
+abbrev pub ioc_of : Members → Read IocSetting
+ioc_of ms =
+    of_keys
+    machine_faults
+    ioc_keys
+    ms
+    (reading_map ioc_with (pair machine_faults (bytes_in ms) (timers_in ms)))
+
+abbrev pub ioc_at : Data → Read IocSetting
+ioc_at d = required machine_faults (as_table d) ioc_of
+
+abbrev pub ioc_in : Members → Read IocSetting
+ioc_in ms = optional no_ioc (get_member (codes "ioc") ms) ioc_at
+
+-- ## VIDC
+
+abbrev pub vidc_with : (Option ℕ × Option ℕ) × ((ℕ × ℕ) × ℕ) → VidcSetting
+vidc_with p =
+    record {
+      horizontal_cycle = p.0.0;
+      vertical_cycle = p.0.1;
+      display_end = p.1.0.0;
+      pixel_rate = p.1.0.1;
+      ticks = p.1.1;
+    }
+
+abbrev pub cycles_in : Members → Read (Option ℕ × Option ℕ)
+cycles_in ms =
+    pair machine_faults (number_if machine_faults (codes "horizontal_cycle") 0x3FF ms)
+    (number_if machine_faults (codes "vertical_cycle") 0x3FF ms)
+
+abbrev pub display_in : Members → Read ((ℕ × ℕ) × ℕ)
+display_in ms =
+    pair machine_faults
+    (pair machine_faults (number_or machine_faults (codes "display_end") 0x3FF 0 ms)
+    (number_or machine_faults (codes "pixel_rate") 3 0 ms))
+    (word_or machine_faults (codes "ticks") 0 ms)
+
+abbrev pub vidc_of : Members → Read VidcSetting
+vidc_of ms =
+    of_keys
+    machine_faults
+    vidc_keys
+    ms
+    (reading_map vidc_with (pair machine_faults (cycles_in ms) (display_in ms)))
+
+abbrev pub vidc_at : Data → Read VidcSetting
+vidc_at d = required machine_faults (as_table d) vidc_of
+
+abbrev pub vidc_in : Members → Read VidcSetting
+vidc_in ms = optional no_vidc (get_member (codes "vidc") ms) vidc_at
+
 -- ## The file
 
-abbrev pub stated_of : Processor × (Controller × (Schedule × List (ℕ × ℕ))) → Stated
-stated_of p = record { processor = p.0; controller = p.1.0; schedule = p.1.1.0; words = p.1.1.1 }
+abbrev pub devices_in : Members → Read (IocSetting × VidcSetting)
+devices_in ms = pair machine_faults (ioc_in ms) (vidc_in ms)
+
+abbrev pub stated_of :
+    Processor × (Controller × (Schedule × (List (ℕ × ℕ) × (IocSetting × VidcSetting)))) → Stated
+stated_of p =
+    record {
+      processor = p.0;
+      controller = p.1.0;
+      schedule = p.1.1.0;
+      words = p.1.1.1.0;
+      ioc = p.1.1.1.1.0;
+      vidc = p.1.1.1.1.1;
+    }
 
 abbrev pub machine_in : Members → Read Stated
 machine_in ms =
@@ -274,7 +391,9 @@ machine_in ms =
     ms
     (reading_map stated_of
     (pair machine_faults (processor_in ms)
-    (pair machine_faults (controller_in ms) (pair machine_faults (schedule_in ms) (put_words_in ms)))))
+    (pair machine_faults (controller_in ms)
+    (pair machine_faults (schedule_in ms)
+    (pair machine_faults (put_words_in ms) (devices_in ms))))))
 
 -- the answer to a text, but for lack of memory
 abbrev pub IsMachineFile : List ℕ → Read Stated → Type 0

@@ -16,20 +16,23 @@ use Rattle.memc.specs.declared.pages.TheConstants.{PHYSICAL_PAGES}
 use Rattle.memc.specs.declared.spots.PageSize.{PageSize}
 use Rattle.toml_reading.specs.Documents.{in_space, is_one_of, items_at}
 use Rattle.toml_reading.specs.Lowest.{entries_at, natural, number_of_entry}
-use Rattle.machine_file.specs.MachineFaultRules.{Row, Shape, Word, file_shape, may_have, register_shape}
+use Rattle.machine_file.specs.MachineFaultRules.{Row, Shape, Word, file_shape, may_have}
 use Rattle.machine_file.specs.MachineFaults.{machine_faults, number_of}
-use Rattle.machine_file.specs.MachineFile.{Read, is_letter, is_single, put_address_of, size_in, size_of}
-use Rattle.machine_file.specs.MachinePlaces.{differs, list_key, number_key, number_list, shape_in}
+use Rattle.machine_file.specs.MachineFile.{Read, is_letter, is_single, put_address_of, requests_of, size_in}
+use Rattle.machine_file.specs.MachineFile.{size_of}
+use Rattle.machine_file.specs.MachinePlaces.{differs, list_key, number_key, number_list, shape_in, shape_of}
+use Rattle.machine_file.specs.MachinePlaces.{table_key}
 use Rattle.machine_file.specs.Names.{named_mode}
 use Rattle.machine_file.specs.declared.machine_faults.MachineFileFault.{MachineFileFault}
 use Rattle.machine_file.specs.declared.machine_faults.MachineFileFault.TheVariants.{UnknownKey, WrongKind}
 use Rattle.machine_file.specs.declared.machine_faults.MachineFileFault.TheVariants.{OutOfRange, Twice}
 use Rattle.machine_file.specs.declared.rows.Takes.{Takes}
 use Rattle.machine_file.specs.declared.rows.Takes.TheVariants.{UpTo, Address, PutAddress, Size, ModeName}
-use Rattle.machine_file.specs.declared.rows.Takes.TheVariants.{FlagLetters, LineNames}
+use Rattle.machine_file.specs.declared.rows.Takes.TheVariants.{FlagLetters, LatchedBits, LineNames}
 use Rattle.machine_file.specs.declared.spots.EntryNumber.{EntryNumber}
 use Rattle.machine_file.specs.declared.spots.EntryNumber.TheVariants as number
 use Rattle.machine_file.specs.declared.spots.MachineList.{MachineList}
+use Rattle.machine_file.specs.declared.spots.MachineTable.{MachineTable}
 use Rattle.machine_file.specs.declared.spots.MachineSpot.{MachineSpot}
 use Rattle.machine_file.specs.declared.spots.MachineSpot.TheVariants as spot
 use Rattle.machine_file.specs.declared.spots.Part.{Part}
@@ -80,6 +83,7 @@ is_other_kind (UpTo limit) d = is_none (as_integer d)
 is_other_kind Address d = is_none (as_integer d)
 is_other_kind PutAddress d = is_none (as_integer d)
 is_other_kind Size d = is_none (as_integer d)
+is_other_kind LatchedBits d = is_none (as_integer d)
 is_other_kind ModeName d = names_no_mode d
 is_other_kind FlagLetters d = has_other_letters d
 is_other_kind LineNames d = name_no_lines d
@@ -93,6 +97,7 @@ is_other (UpTo limit) z = is_outside limit z
 is_other Address z = is_err (in_space machine_faults z)
 is_other PutAddress z = is_err (put_address_of z)
 is_other Size z = is_err (size_of z)
+is_other LatchedBits z = is_err (requests_of z)
 is_other ModeName z = false
 is_other FlagLetters z = false
 is_other LineNames z = false
@@ -196,8 +201,8 @@ is_twice_text (Some text) = not (is_single text)
 abbrev pub has_letter_twice : Option Data → Bool
 has_letter_twice o = is_twice_text (option_and_then as_str o)
 
-abbrev pub register_table : Members → Option Members
-register_table ms = option_and_then as_table (get_member (codes "registers") ms)
+abbrev pub inner_table : MachineTable → Members → Option Members
+inner_table table ms = option_and_then as_table (get_member (table_key table) ms)
 
 abbrev pub logical_limit : Read PageSize → Option ℕ
 logical_limit (Ok size) = Some (2 ^ (25 - shift_of_size size))
@@ -223,10 +228,10 @@ is_second number n ms = differs number && is_set (number_repeats number ms) n
 abbrev pub found : Members → MachineSpot → MachineFileFault → Bool
 found ms (spot.Own part) fault = part_gives file_shape part ms fault
 found ms spot.FlagTwice fault = is_same Twice fault && has_letter_twice (get_member (codes "flags") ms)
-found ms spot.NoRegisters fault =
-    is_same WrongKind fault && is_no_table (get_member (codes "registers") ms)
-found ms (spot.Register part) fault =
-    holds_of (λ t. part_gives register_shape part t fault) (register_table ms)
+found ms (spot.NoInner table) fault =
+    is_same WrongKind fault && is_no_table (get_member (table_key table) ms)
+found ms (spot.Inner table part) fault =
+    holds_of (λ t. part_gives (shape_of table) part t fault) (inner_table table ms)
 found ms (spot.NoList list) fault = is_same WrongKind fault && is_no_list (get_member (list_key list) ms)
 found ms (spot.NoTable list n) fault = is_same WrongKind fault && is_no_table (entry_at list n ms)
 found ms (spot.Listed list n part) fault =

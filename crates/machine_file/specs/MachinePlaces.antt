@@ -7,8 +7,8 @@ use Rattle.toml.specs.Data.{Data, Members, as_table, get_member}
 use Rattle.toml_reading.specs.Documents.{is_one_of, items_at}
 use Rattle.toml_reading.specs.Lowest.{AtKey, entries_at, number_of_entry}
 use Rattle.machine_file.specs.MachineFaultRules.{IsLetterTwice, IsNoTable, IsOtherKind, IsOtherNumber, OfLimit}
-use Rattle.machine_file.specs.MachineFaultRules.{Shape, event_shape, file_shape, map_shape, put_word_shape}
-use Rattle.machine_file.specs.MachineFaultRules.{register_shape}
+use Rattle.machine_file.specs.MachineFaultRules.{Shape, event_shape, file_shape, ioc_shape, map_shape}
+use Rattle.machine_file.specs.MachineFaultRules.{put_word_shape, register_shape, vidc_shape}
 use Rattle.machine_file.specs.declared.machine_faults.MachineFileFault.{MachineFileFault}
 use Rattle.machine_file.specs.declared.machine_faults.MachineFileFault.TheVariants.{UnknownKey, WrongKind}
 use Rattle.machine_file.specs.declared.machine_faults.MachineFileFault.TheVariants.{OutOfRange, Twice}
@@ -17,10 +17,24 @@ use Rattle.machine_file.specs.declared.spots.EntryNumber.{EntryNumber}
 use Rattle.machine_file.specs.declared.spots.EntryNumber.TheVariants.{Logical, Physical, Level, Step, Address}
 use Rattle.machine_file.specs.declared.spots.MachineList.{MachineList}
 use Rattle.machine_file.specs.declared.spots.MachineList.TheVariants.{Pages, Events, Words}
+use Rattle.machine_file.specs.declared.spots.MachineTable.{MachineTable}
+use Rattle.machine_file.specs.declared.spots.MachineTable.TheVariants.{Registers, Ioc, Vidc}
 use Rattle.machine_file.specs.declared.spots.MachineSpot.{MachineSpot}
 use Rattle.machine_file.specs.declared.spots.MachineSpot.TheVariants as spot
 use Rattle.machine_file.specs.declared.spots.Part.{Part}
 use Rattle.machine_file.specs.declared.spots.Part.TheVariants.{Unknown, Value, Missing}
+
+-- ## Tables
+
+abbrev pub table_key : MachineTable → List ℕ
+table_key Registers = codes "registers"
+table_key Ioc = codes "ioc"
+table_key Vidc = codes "vidc"
+
+abbrev pub shape_of : MachineTable → Shape
+shape_of Registers = register_shape
+shape_of Ioc = ioc_shape
+shape_of Vidc = vidc_shape
 
 -- ## Lists
 
@@ -93,9 +107,9 @@ PartFault shape (Missing key) ms fault =
 abbrev pub IsMachineFaultAt : Members → MachineSpot → MachineFileFault → Type 0
 IsMachineFaultAt ms (spot.Own part) fault = PartFault file_shape part ms fault
 IsMachineFaultAt ms spot.FlagTwice fault = IsLetterTwice ms × (fault ≡ Twice)
-IsMachineFaultAt ms spot.NoRegisters fault = AtKey (codes "registers") ms IsNoTable × (fault ≡ WrongKind)
-IsMachineFaultAt ms (spot.Register part) fault =
-    AtKey (codes "registers") ms (λ d. IsSomeAnd (as_table d) (λ t. PartFault register_shape part t fault))
+IsMachineFaultAt ms (spot.NoInner table) fault = AtKey (table_key table) ms IsNoTable × (fault ≡ WrongKind)
+IsMachineFaultAt ms (spot.Inner table part) fault =
+    AtKey (table_key table) ms (λ d. IsSomeAnd (as_table d) (λ t. PartFault (shape_of table) part t fault))
 IsMachineFaultAt ms (spot.NoList list) fault =
     AtKey (list_key list) ms (λ d. items_at d ≡ None) × (fault ≡ WrongKind)
 IsMachineFaultAt ms (spot.NoTable list n) fault = AtEntry list n ms IsNoTable × (fault ≡ WrongKind)

@@ -1,5 +1,5 @@
 -- What a machine file states, key by key (over the documents of TOML).
-use Rattle.std.specs.Prelude.{◌≡◌, ℕ, pos, true, List, [], codes, replicate, None}
+use Rattle.std.specs.Prelude.{◌≡◌, ◌-◌, ◌^◌, ℕ, pos, true, List, [], codes, replicate, None}
 use Rattle.std.specs.Prelude.{IsSomeAnd, IsTrue}
 use Rattle.std.specs.List.{AllZip, list_all}
 use Rattle.std.specs.Map.{keys_of}
@@ -13,15 +13,17 @@ use Rattle.memc.specs.declared.spots.PageSize.TheVariants.{K4, K8, K16, K32}
 use Rattle.toml_reading.specs.Documents.{are_distinct, has_only_keys}
 use Rattle.bus_ticks.specs.Prices.{is_word_address}
 use Rattle.toml_reading.specs.Lowest.{AtKey, AtKeyOr, IsListOf, IsNamed, IsNumber, IsTable}
-use Rattle.machine_file.specs.MachineFile.{are_single, is_letter, is_mappable, is_single}
+use Rattle.machine_file.specs.MachineFile.{are_latched, are_single, is_letter, is_mappable, is_single}
 use Rattle.ioc.specs.LineNames.{line_named}
 use Rattle.machine_file.specs.MachineFile.{set_flags, union}
 use Rattle.machine_file.specs.Names.{event_keys, file_keys, map_keys, name_of, named_mode, named_registers}
-use Rattle.machine_file.specs.Names.{register_keys, word_keys}
-use Rattle.machine_file.specs.Stated.{Controller, Processor, Schedule, Stated}
-use Rattle.machine_file.specs.Words.{IsWord}
+use Rattle.machine_file.specs.Names.{ioc_keys, register_keys, vidc_keys, word_keys}
+use Rattle.machine_file.specs.Stated.{Controller, IocSetting, Processor, Schedule, Stated, VidcSetting}
+use Rattle.machine_file.specs.Stated.{no_ioc, no_vidc}
+use Rattle.machine_file.specs.Words.{HasNumber, IsWord, MayHaveNumber}
 use Rattle.machine_file.specs.declared.events.Event.{Event}
 use Rattle.machine_file.specs.declared.flags.PsrFlags.{PsrFlags}
+use Rattle.machine_file.specs.declared.ioc_settings.TimerSetting.{TimerSetting}
 use Rattle.machine_file.specs.declared.pages.MappedPage.{MappedPage}
 
 -- ## Values
@@ -50,6 +52,10 @@ AreFlags d flags =
     IsSomeAnd
     (as_str d)
     (λ text. (flags ≡ set_flags text) × (list_all is_letter text ≡ true) × (is_single text ≡ true))
+
+-- bits of IRQ A's latched requests
+abbrev pub AreRequests : Data → ℕ → Type 0
+AreRequests d n = IsSomeAnd (as_integer d) (λ z. (z ≡ pos n) × IsTrue (are_latched n))
 
 -- names of lines, which are active
 abbrev pub AreLines : Data → Lines → Type 0
@@ -98,6 +104,38 @@ IsPutWord d word =
     × AtKey (codes "value") ms (λ e. IsWord e word.1))
     d
 
+-- a timer of 16 bits by the keys of its latch and of its count, which is the latch's where its key is missing
+abbrev pub StatesTimer : (latch count : List ℕ) → Members → TimerSetting → Type 0
+StatesTimer latch count ms timer =
+    HasNumber latch 0xFFFF ms timer.latch × MayHaveNumber count 0xFFFF ms timer.count
+
+-- IOC: masks of eight bits, requests and timers
+abbrev pub IsIoc : Data → IocSetting → Type 0
+IsIoc d ioc =
+    IsTable
+    ioc_keys
+    (λ ms.
+    HasNumber (codes "mask_a") 0xFF ms ioc.mask_a
+    × HasNumber (codes "mask_b") 0xFF ms ioc.mask_b
+    × HasNumber (codes "mask_fiq") 0xFF ms ioc.mask_fiq
+    × AtKeyOr (codes "requests_a") ms (ioc.requests_a ≡ 0) (λ e. AreRequests e ioc.requests_a)
+    × StatesTimer (codes "timer_0") (codes "count_0") ms ioc.timer_0
+    × StatesTimer (codes "timer_1") (codes "count_1") ms ioc.timer_1)
+    d
+
+-- VIDC: values of ten bits, and the pixel rate of two; a cycle register whose key is missing was not written
+abbrev pub IsVidc : Data → VidcSetting → Type 0
+IsVidc d vidc =
+    IsTable
+    vidc_keys
+    (λ ms.
+    MayHaveNumber (codes "horizontal_cycle") 0x3FF ms vidc.horizontal_cycle
+    × MayHaveNumber (codes "vertical_cycle") 0x3FF ms vidc.vertical_cycle
+    × HasNumber (codes "display_end") 0x3FF ms vidc.display_end
+    × HasNumber (codes "pixel_rate") 3 ms vidc.pixel_rate
+    × HasNumber (codes "ticks") (2 ^ 32 - 1) ms vidc.ticks)
+    d
+
 -- ## What the file states
 
 -- only `pc` is required; where another key is missing, what is written here beside it holds
@@ -132,3 +170,5 @@ pub record StatesMachine (ms : Members) (stated : Stated) : Type 0 where
   pub schedule : StatesSchedule ms stated.schedule
   pub words : AtKeyOr (codes "word") ms (stated.words ≡ []) (λ d. IsListOf IsPutWord d stated.words)
   pub words_once : are_distinct (keys_of stated.words) ≡ true
+  pub ioc : AtKeyOr (codes "ioc") ms (stated.ioc ≡ no_ioc) (λ d. IsIoc d stated.ioc)
+  pub vidc : AtKeyOr (codes "vidc") ms (stated.vidc ≡ no_vidc) (λ d. IsVidc d stated.vidc)

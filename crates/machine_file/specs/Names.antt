@@ -50,7 +50,7 @@ abbrev pub file_keys : List (List ℕ)
 file_keys =
     codes "pc" ∷ codes "pages" ∷ codes "mode" ∷ codes "flags" ∷ codes "low_rom" ∷ codes "high_rom"
     ∷ codes "steps" ∷ codes "port" ∷ codes "registers"
-    ∷ codes "map" ∷ codes "event" ∷ codes "word" ∷ []
+    ∷ codes "map" ∷ codes "event" ∷ codes "word" ∷ codes "ioc" ∷ codes "vidc" ∷ []
 
 abbrev pub register_keys : List (List ℕ)
 register_keys = map name_of named_registers
@@ -63,6 +63,16 @@ event_keys = codes "step" ∷ codes "bursts" ∷ codes "lines" ∷ codes "port" 
 
 abbrev pub word_keys : List (List ℕ)
 word_keys = codes "at" ∷ codes "value" ∷ []
+
+abbrev pub ioc_keys : List (List ℕ)
+ioc_keys =
+    codes "mask_a" ∷ codes "mask_b" ∷ codes "mask_fiq" ∷ codes "requests_a"
+    ∷ codes "timer_0" ∷ codes "count_0" ∷ codes "timer_1" ∷ codes "count_1" ∷ []
+
+abbrev pub vidc_keys : List (List ℕ)
+vidc_keys =
+    codes "horizontal_cycle" ∷ codes "vertical_cycle" ∷ codes "display_end" ∷ codes "pixel_rate"
+    ∷ codes "ticks" ∷ []
 
 -- ## Names of modes
 

@@ -1,17 +1,17 @@
 -- Which machine file is built from parts.
-use Rattle.std.specs.Prelude.{◌≡◌, ◌≤◌, ◌<◌, ◌^◌, true, [], All, IsTrue, Ok, Err, length}
+use Rattle.std.specs.Prelude.{◌≡◌, ◌≤◌, ◌<◌, ◌^◌, true, [], All, IfSome, IsTrue, Ok, Err, length}
 use Rattle.std.specs.List.{list_all}
 use Rattle.std.specs.Map.{keys_of}
 use Rattle.image.specs.Image.{may_hold}
 use Rattle.memc.specs.Memory.{shift_of_size}
 use Rattle.toml_reading.specs.Documents.{are_distinct}
 use Rattle.bus_ticks.specs.Prices.{is_word_address}
-use Rattle.machine_file.specs.MachineFile.{Read, are_single, is_mappable}
-use Rattle.machine_file.specs.Stated.{Stated}
+use Rattle.machine_file.specs.MachineFile.{Read, are_latched, are_single, is_mappable}
+use Rattle.machine_file.specs.Stated.{IocSetting, Stated, VidcSetting, no_ioc, no_vidc}
 use Rattle.machine_file.specs.declared.parts.MachineParts.{MachineParts}
 use Rattle.machine_file.specs.declared.machine_faults.MachineFileFault.TheVariants.{OutOfRange, Twice}
 
--- what the parts state; there are no events
+-- what the parts state; there are no events, and the devices are as after a reset
 abbrev pub stated_by : MachineParts → Stated
 stated_by p =
     record {
@@ -31,6 +31,8 @@ stated_by p =
           };
       schedule = record { steps = p.schedule.steps; port = p.schedule.port; events = [] };
       words = p.words.items;
+      ioc = no_ioc;
+      vidc = no_vidc;
     }
 
 -- each number is one that its key takes, and MEMC can map each page
@@ -58,3 +60,22 @@ pub record AreWords (s : Stated) : Type 0 where
   pub count : length s.processor.registers ≡ 26
   pub registers : All (λ w. w < 2 ^ 32) s.processor.registers
   pub port : s.schedule.port < 2 ^ 32
+
+-- every machine file's devices have numbers that their keys take: those of IOC
+pub record IsIocInRange (s : IocSetting) : Type 0 where
+  pub mask_a : s.mask_a ≤ 0xFF
+  pub mask_b : s.mask_b ≤ 0xFF
+  pub mask_fiq : s.mask_fiq ≤ 0xFF
+  pub requests_a : IsTrue (are_latched s.requests_a)
+  pub latch_0 : s.timer_0.latch ≤ 0xFFFF
+  pub count_0 : IfSome s.timer_0.count (λ n. n ≤ 0xFFFF)
+  pub latch_1 : s.timer_1.latch ≤ 0xFFFF
+  pub count_1 : IfSome s.timer_1.count (λ n. n ≤ 0xFFFF)
+
+-- and those of VIDC
+pub record IsVidcInRange (s : VidcSetting) : Type 0 where
+  pub horizontal_cycle : IfSome s.horizontal_cycle (λ n. n ≤ 0x3FF)
+  pub vertical_cycle : IfSome s.vertical_cycle (λ n. n ≤ 0x3FF)
+  pub display_end : s.display_end ≤ 0x3FF
+  pub pixel_rate : s.pixel_rate ≤ 3
+  pub ticks : s.ticks < 2 ^ 32

@@ -1,6 +1,6 @@
 -- The document that states a machine (over the documents of TOML).
 use Rattle.std.specs.Prelude.{◌==◌, ◌++◌, ℕ, pos, Bool, List, [], ◌∷◌, map, fold, codes, if◌then◌else◌}
-use Rattle.std.specs.Prelude.{Option, Some, None}
+use Rattle.std.specs.Prelude.{Option, Some, None, option_map}
 use Rattle.std.specs.Cmp.Lexicographic.{slice_cmp}
 use Rattle.std.specs.List.{zip}
 use Rattle.std.specs.Ordering.{match_ordering, nat_cmp}
@@ -10,8 +10,9 @@ use Rattle.arm2_effect.specs.declared.modes.Mode.{Mode}
 use Rattle.arm2_effect.specs.declared.modes.Mode.TheVariants.{User, Fiq, Irq, Svc}
 use Rattle.machine_file.specs.MachineRules.{kilobytes}
 use Rattle.machine_file.specs.Names.{register_keys}
-use Rattle.machine_file.specs.Stated.{Controller, Processor, Schedule, Stated}
+use Rattle.machine_file.specs.Stated.{Controller, IocSetting, Processor, Schedule, Stated, VidcSetting}
 use Rattle.machine_file.specs.declared.flags.PsrFlags.{PsrFlags}
+use Rattle.machine_file.specs.declared.ioc_settings.TimerSetting.{TimerSetting}
 use Rattle.machine_file.specs.declared.pages.MappedPage.{MappedPage}
 
 -- ## Tables
@@ -99,6 +100,40 @@ word_rows w = (codes "at", Some (number w.0)) ∷ (codes "value", Some (number w
 abbrev pub word_data : ℕ × ℕ → Data
 word_data w = table (table_of (word_rows w))
 
+-- what is not as after a reset
+
+abbrev pub timer_rows : (latch count : List ℕ) → TimerSetting → List Row
+timer_rows latch count t = (latch, unless_zero t.latch) ∷ (count, option_map number t.count) ∷ []
+
+abbrev pub byte_rows : IocSetting → List Row
+byte_rows s =
+    (codes "mask_a", unless_zero s.mask_a)
+    ∷ (codes "mask_b", unless_zero s.mask_b)
+    ∷ (codes "mask_fiq", unless_zero s.mask_fiq)
+    ∷ (codes "requests_a", unless_zero s.requests_a)
+    ∷ []
+
+abbrev pub ioc_rows : IocSetting → List Row
+ioc_rows s =
+    byte_rows s ++ timer_rows (codes "timer_0") (codes "count_0") s.timer_0
+    ++ timer_rows (codes "timer_1") (codes "count_1") s.timer_1
+
+abbrev pub cycle_rows : VidcSetting → List Row
+cycle_rows s =
+    (codes "horizontal_cycle", option_map number s.horizontal_cycle)
+    ∷ (codes "vertical_cycle", option_map number s.vertical_cycle)
+    ∷ []
+
+abbrev pub display_rows : VidcSetting → List Row
+display_rows s =
+    (codes "display_end", unless_zero s.display_end)
+    ∷ (codes "pixel_rate", unless_zero s.pixel_rate)
+    ∷ (codes "ticks", unless_zero s.ticks)
+    ∷ []
+
+abbrev pub vidc_rows : VidcSetting → List Row
+vidc_rows s = cycle_rows s ++ display_rows s
+
 -- ## The file
 
 abbrev pub processor_rows : Processor → List Row
@@ -123,10 +158,16 @@ schedule_rows s = (codes "steps", Some (number s.steps)) ∷ (codes "port", Some
 abbrev pub word_list_rows : List (ℕ × ℕ) → List Row
 word_list_rows words = (codes "word", list_value (map word_data words)) ∷ []
 
+abbrev pub device_rows : IocSetting → VidcSetting → List Row
+device_rows ioc vidc =
+    (codes "ioc", table_value (table_of (ioc_rows ioc)))
+    ∷ (codes "vidc", table_value (table_of (vidc_rows vidc)))
+    ∷ []
+
 abbrev pub file_rows : Stated → List Row
 file_rows s =
     processor_rows s.processor ++ controller_rows s.controller ++ schedule_rows s.schedule
-    ++ word_list_rows s.words
+    ++ word_list_rows s.words ++ device_rows s.ioc s.vidc
 
 -- the document of a machine file without events
 abbrev pub document_of : Stated → Members

@@ -1,9 +1,8 @@
-ghost use Rattle.std.specs.Prelude.{◌≡◌, IfOk, codes};
+ghost use Rattle.std.specs.Prelude.{◌≡◌, IfOk};
 ghost use Rattle.std.specs.Map.{keys_of};
 ghost use Rattle.toml_reading.specs.Readings.{reading_map};
 ghost use Rattle.toml.specs.View.{table_view, view};
-ghost use Rattle.toml_reading.specs.Documents.{number_at, number_or, once};
-ghost use Rattle.machine_file.specs.MachineFaults.{machine_faults};
+ghost use Rattle.toml_reading.specs.Documents.{once};
 ghost use Rattle.machine_file.specs.MachineFile.{counts_in, event_at, event_in, event_of};
 ghost use Rattle.machine_file.specs.MachineFile.{events_in, line_at, lines_at};
 ghost use Rattle.machine_file.specs.MachineFile.{lines_in, port_at, port_in, schedule_in};
@@ -11,6 +10,7 @@ ghost use Rattle.ioc.specs.LineNames.{line_named};
 ghost use Rattle.machine_file.specs.MachineFile.{union};
 
 use crate::machine_faults::{MachineFileFault, Read};
+use crate::numbers::half_or_zero;
 use bitflags::Flags;
 use indexmap::IndexMap;
 use ioc::Lines;
@@ -102,24 +102,6 @@ fn port_in(table: &Table) -> Read<Option<u32>>
     value_at(table, "port").map_or(Ok(None), port_at)
 }
 
-fn bursts_of(value: &Value) -> Read<u16>
-    ensures { result ≡ number_at machine_faults u16.MAX (view value.now) }
-{
-    match value.as_integer() {
-        Some(number) => match u16::try_from(number) {
-            Ok(bursts) => Ok(bursts),
-            Err(_) => Err(MachineFileFault::OutOfRange),
-        },
-        None => Err(MachineFileFault::WrongKind),
-    }
-}
-
-fn bursts(table: &Table) -> Read<u16>
-    ensures { result ≡ number_or machine_faults (codes "bursts") u16.MAX 0 (table_view table.now) }
-{
-    value_at(table, "bursts").map_or(Ok(0), bursts_of)
-}
-
 fn event_of(parts: (u32, (u16, (Option<Lines>, Option<u32>)))) -> (u32, Event)
     ensures { result ≡ event_of parts }
 {
@@ -136,7 +118,7 @@ fn event_in(alloc: Global, table: &Table) -> Result<Read<(u32, Event)>, AllocErr
     ensures { IfOk result (λ event. event ≡ event_in (table_view table.now)) }
 {
     let held = pair(lines_in(alloc, table)?, port_in(table));
-    let rest = pair(bursts(table), held);
+    let rest = pair(half_or_zero(table, "bursts"), held);
     let event = pair(number_in(table, "step", LAST_STEP), rest).map(event_of);
     Ok(of_keys(EVENT_KEYS, table, event))
 }

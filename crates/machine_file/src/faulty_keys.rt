@@ -4,8 +4,8 @@ ghost use Rattle.std.specs.Prelude.{◌≡◌, is_some, map, option_map};
 ghost use Rattle.std.specs.List.{list_any};
 ghost use Rattle.toml.specs.Data.{get_member};
 ghost use Rattle.toml.specs.View.{table_view, view};
-ghost use Rattle.machine_file.specs.MachineFaultRules.{file_shape, register_shape};
-ghost use Rattle.machine_file.specs.MachinePlaces.{shape_in};
+ghost use Rattle.machine_file.specs.MachineFaultRules.{file_shape, ioc_shape, register_shape, vidc_shape};
+ghost use Rattle.machine_file.specs.MachinePlaces.{shape_in, shape_of};
 ghost use Rattle.machine_file.specs.MachinePlaceTests.{has_other_letters, has_unknown, is_other, is_other_kind};
 ghost use Rattle.machine_file.specs.MachinePlaceTests.{is_other_number, is_outside, is_same, kind_gives};
 ghost use Rattle.machine_file.specs.MachinePlaceTests.{misses_one, name_no_lines, names_no_line};
@@ -14,13 +14,15 @@ ghost use Rattle.machine_file.specs.MachinePlaceTests.{values_give, word_row};
 
 use crate::events::line_named;
 use crate::flags::are_letters;
+use crate::ioc_settings::{IOC_KEYS, requests_of};
 use crate::machine_faults::MachineFileFault;
 use crate::machine_files::MACHINE_KEYS;
 use crate::pages::size_of;
 use crate::processor::{named_mode, start_address};
 use crate::registers::NAMES;
-use crate::rows::{Row, Takes, WORD, file_rows, keys_in, rows_in};
-use crate::spots::{MachineList, Part};
+use crate::rows::{Row, Takes, WORD, file_rows, ioc_rows, keys_in, rows_in, vidc_rows};
+use crate::spots::{MachineList, MachineTable, Part};
+use crate::vidc_settings::VIDC_KEYS;
 use crate::words::put_address_of;
 use toml::{Table, Value};
 use toml_reading::{Fault, is_one_of, value_at, values_of};
@@ -75,9 +77,8 @@ fn is_other_kind(takes: Takes, value: &Value) -> bool
     ensures { result ≡ is_other_kind takes (view value.now) }
 {
     match takes {
-        Takes::UpTo(_) | Takes::Address | Takes::PutAddress | Takes::Size => {
-            value.as_integer().is_none()
-        }
+        Takes::UpTo(_) | Takes::Address | Takes::PutAddress | Takes::Size | Takes::LatchedBits =>
+            value.as_integer().is_none(),
         Takes::ModeName => names_no_mode(value),
         Takes::FlagLetters => has_other_letters(value),
         Takes::LineNames => name_no_lines(value),
@@ -103,6 +104,7 @@ fn is_other(takes: Takes, number: i64) -> bool
         Takes::Address => start_address(number).is_err(),
         Takes::PutAddress => put_address_of(number).is_err(),
         Takes::Size => size_of(number).is_err(),
+        Takes::LatchedBits => requests_of(number).is_err(),
         Takes::ModeName | Takes::FlagLetters | Takes::LineNames => false,
     }
 }
@@ -216,8 +218,8 @@ pub(crate) fn own_part_gives(table: &Table, part: Part<'_>, fault: MachineFileFa
     }
 }
 
-/// Whether the part of the table of registers has the fault: none of them has to be there.
-pub(crate) fn register_part_gives(table: &Table, part: Part<'_>, fault: MachineFileFault) -> bool
+// Whether the part of the table of registers has the fault: none of them has to be there.
+fn register_part_gives(table: &Table, part: Part<'_>, fault: MachineFileFault) -> bool
     ensures { result ≡ part_gives register_shape part.entry (table_view table.now) fault }
 {
     match part {
@@ -226,6 +228,48 @@ pub(crate) fn register_part_gives(table: &Table, part: Part<'_>, fault: MachineF
         }
         Part::Value(key) => words_give(&NAMES, table, key, fault),
         Part::Missing(_) => false,
+    }
+}
+
+// Whether the part of IOC's table has the fault: none of its keys has to be there.
+fn ioc_part_gives(table: &Table, part: Part<'_>, fault: MachineFileFault) -> bool
+    ensures { result ≡ part_gives ioc_shape part.entry (table_view table.now) fault }
+{
+    match part {
+        Part::Unknown(key) => {
+            is_same(MachineFileFault::UnknownKey, fault) && has_unknown(IOC_KEYS, table, key)
+        }
+        Part::Value(key) => values_give(ioc_rows(), table, key, fault),
+        Part::Missing(_) => false,
+    }
+}
+
+// The same of VIDC's table.
+fn vidc_part_gives(table: &Table, part: Part<'_>, fault: MachineFileFault) -> bool
+    ensures { result ≡ part_gives vidc_shape part.entry (table_view table.now) fault }
+{
+    match part {
+        Part::Unknown(key) => {
+            is_same(MachineFileFault::UnknownKey, fault) && has_unknown(VIDC_KEYS, table, key)
+        }
+        Part::Value(key) => values_give(vidc_rows(), table, key, fault),
+        Part::Missing(_) => false,
+    }
+}
+
+/// Whether the part of one of the file's tables has the fault.
+pub(crate) fn inner_part_gives(
+    inner: MachineTable,
+    table: &Table,
+    part: Part<'_>,
+    fault: MachineFileFault,
+) -> bool
+    ensures { result ≡ part_gives (shape_of inner) part.entry (table_view table.now) fault }
+{
+    match inner {
+        MachineTable::Registers => register_part_gives(table, part, fault),
+        MachineTable::Ioc => ioc_part_gives(table, part, fault),
+        MachineTable::Vidc => vidc_part_gives(table, part, fault),
     }
 }
 

@@ -75,6 +75,16 @@ pub(crate) fn unless_zero(value: u32) -> Option<Value>
     Some(Value::from(value))
 }
 
+/// A number, if there is one.
+pub(crate) fn some_number(value: Option<u32>) -> Option<Value>
+    ensures { option_map view result ≡ option_map number value }
+{
+    match value {
+        Some(value) => Some(Value::from(value)),
+        None => None,
+    }
+}
+
 /// A list, but for an empty one.
 pub(crate) fn list_value(values: Vec<Value>) -> Option<Value>
     ensures { option_map view result ≡ list_value (map view values.items) }

@@ -1,5 +1,6 @@
-ghost use Rattle.std.specs.Prelude.{◌≡◌, ◌↔◌, ℕ, List, Ok, Err};
-ghost use Rattle.toml.specs.Data.{Members};
+ghost use Rattle.std.specs.Prelude.{◌≡◌, ◌↔◌, ℕ, List, None, Ok, Err, codes};
+ghost use Rattle.ioc.specs.Interrupts.{fresh as fresh_ioc};
+ghost use Rattle.toml.specs.Data.{Members, get_member};
 ghost use Rattle.toml_reading.specs.Lowest.{IsLowest};
 ghost use Rattle.machine_file.specs.MachineFaults.{machine_faults};
 ghost use Rattle.machine_file.specs.MachineFile.{machine_in};
@@ -10,9 +11,11 @@ ghost use Rattle.machine_file.specs.ProfileFaults.{profile_faults};
 ghost use Rattle.machine_file.specs.ProfileFile.{IsPriced, Read, numbers_in};
 ghost use Rattle.machine_file.specs.ProfilePlaces.{IsProfileFaultAt};
 ghost use Rattle.machine_file.specs.ProfileRules.{HasProfileFault, StatesProfile};
+ghost use Rattle.machine_file.specs.Started.{ioc_start, vidc_start};
 ghost use Rattle.machine_file.specs.Stated.{Stated};
 ghost use Rattle.machine_file.specs.declared.spots.MachineSpot.{MachineSpot};
 ghost use Rattle.machine_file.specs.declared.spots.ProfileSpot.{ProfileSpot};
+ghost use Rattle.vidc.specs.Video.{fresh as fresh_vidc};
 
 use crate::machine_faults::MachineFileFault;
 use crate::profile_faults::ProfileFileFault;
@@ -34,6 +37,15 @@ pub fn machine_files_are_read()
         ↔ StatesMachine ms stated }
     ensures fault { (ms : Members) → (fault : MachineFileFault) → machine_in ms ≡ Err fault
         ↔ IsLowest machine_faults (HasMachineFault ms) fault }
+{}
+
+/// States that a machine file without `ioc`, or without `vidc`, starts with that device as after a reset. It
+/// does nothing.
+pub fn missing_devices_are_reset()
+    ensures ioc { (ms : Members) → (stated : Stated) → machine_in ms ≡ Ok stated
+        → get_member (codes "ioc") ms ≡ None → ioc_start stated.ioc ≡ fresh_ioc }
+    ensures vidc { (ms : Members) → (stated : Stated) → machine_in ms ≡ Ok stated
+        → get_member (codes "vidc") ms ≡ None → vidc_start stated.vidc ≡ fresh_vidc }
 {}
 
 /// States that a machine file's document has a fault exactly where one of its spots has it, as

@@ -7,13 +7,15 @@ ghost use Rattle.toml_reading.specs.Documents.{are_distinct};
 ghost use Rattle.toml_reading.specs.Readings.{pair, reading_map};
 ghost use Rattle.machine_file.specs.MachineFaults.{machine_faults};
 ghost use Rattle.machine_file.specs.MachineFile.{IsMachineFile, controller_in, machine_in, processor_in};
-ghost use Rattle.machine_file.specs.MachineFile.{schedule_in, stated_of, put_words_in};
+ghost use Rattle.machine_file.specs.MachineFile.{devices_in, schedule_in, stated_of, put_words_in};
 
 use crate::events::{Event, Schedule, schedule_in};
 use crate::flags::PsrFlags;
+use crate::ioc_settings::{IocSetting, ioc_in};
 use crate::machine_faults::{MachineFileFault, Read};
 use crate::pages::{Controller, MappedPage, controller_in};
 use crate::processor::{Processor, processor_in};
+use crate::vidc_settings::{VidcSetting, vidc_in};
 use crate::words::{PutWords, put_words_in};
 use arm2_effect::Mode;
 use indexmap::IndexMap;
@@ -37,6 +39,8 @@ pub const MACHINE_KEYS: &[&str] = &[
     "map",
     "event",
     "word",
+    "ioc",
+    "vidc",
 ];
 
 /// The state from which a machine starts, the words that are put into its memory after the image, and what
@@ -47,6 +51,8 @@ pub struct MachineFile {
     pub(crate) controller: Controller,
     pub(crate) schedule: Schedule,
     pub(crate) words: PutWords,
+    pub(crate) ioc: IocSetting,
+    pub(crate) vidc: VidcSetting,
 }
 
 impl Model for MachineFile {
@@ -54,8 +60,14 @@ impl Model for MachineFile {
 
     ghost Value = { Stated };
 
-    ghost view = { λ f. record
-        { processor = f.processor; controller = f.controller; schedule = f.schedule; words = f.words } };
+    ghost view = { λ f. record {
+      processor = f.processor;
+      controller = f.controller;
+      schedule = f.schedule;
+      words = f.words;
+      ioc = f.ioc;
+      vidc = f.vidc;
+    } };
 }
 
 impl MachineFile {
@@ -151,26 +163,46 @@ impl MachineFile {
     }
 }
 
-type Given = (Schedule, PutWords);
+type Devices = (IocSetting, VidcSetting);
+
+type Given = (Schedule, (PutWords, Devices));
 
 type Parts = (Processor, (Controller, Given));
 
-// What comes from outside, and the words that are put into memory.
+fn devices_in(table: &Table) -> Read<Devices>
+    ensures { result ≡ devices_in (table_view table.now) }
+{
+    pair(ioc_in(table), vidc_in(table))
+}
+
+// The words that are put into memory, and the devices.
+fn placed(alloc: Global, table: &Table) -> Result<Read<(PutWords, Devices)>, AllocError>
+    ensures { IfOk result
+        (λ parts. parts
+        ≡ pair machine_faults (put_words_in (table_view table.now)) (devices_in (table_view table.now))) }
+{
+    let words = put_words_in(alloc, table)?;
+    Ok(pair(words, devices_in(table)))
+}
+
+// What comes from outside, the words and the devices.
 fn given(alloc: Global, table: &Table) -> Result<Read<Given>, AllocError>
     ensures { IfOk result
         (λ parts. parts
-        ≡ pair machine_faults (schedule_in (table_view table.now)) (put_words_in (table_view table.now))) }
+        ≡ pair machine_faults (schedule_in (table_view table.now))
+        (pair machine_faults (put_words_in (table_view table.now)) (devices_in (table_view table.now)))) }
 {
     let schedule = schedule_in(alloc, table)?;
-    Ok(pair(schedule, put_words_in(alloc, table)?))
+    Ok(pair(schedule, placed(alloc, table)?))
 }
 
-// The memory controller, the schedule of the inputs, and the words.
+// The memory controller, the schedule of the inputs, the words and the devices.
 fn surroundings(alloc: Global, table: &Table) -> Result<Read<(Controller, Given)>, AllocError>
     ensures { IfOk result
         (λ parts. parts
         ≡ pair machine_faults (controller_in (table_view table.now))
-        (pair machine_faults (schedule_in (table_view table.now)) (put_words_in (table_view table.now)))) }
+        (pair machine_faults (schedule_in (table_view table.now))
+        (pair machine_faults (put_words_in (table_view table.now)) (devices_in (table_view table.now))))) }
 {
     let controller = controller_in(alloc, table)?;
     Ok(pair(controller, given(alloc, table)?))
@@ -181,7 +213,8 @@ fn parts(alloc: Global, table: &Table) -> Result<Read<Parts>, AllocError>
         (λ parts. parts
         ≡ pair machine_faults (processor_in (table_view table.now))
         (pair machine_faults (controller_in (table_view table.now))
-        (pair machine_faults (schedule_in (table_view table.now)) (put_words_in (table_view table.now))))) }
+        (pair machine_faults (schedule_in (table_view table.now))
+        (pair machine_faults (put_words_in (table_view table.now)) (devices_in (table_view table.now)))))) }
 {
     let processor = processor_in(alloc, table)?;
     Ok(pair(processor, surroundings(alloc, table)?))
@@ -190,11 +223,13 @@ fn parts(alloc: Global, table: &Table) -> Result<Read<Parts>, AllocError>
 fn stated(parts: Read<Parts>) -> Read<MachineFile>
     ensures { result ≡ reading_map stated_of parts }
 {
-    parts.map(|(processor, (controller, (schedule, words)))| MachineFile {
+    parts.map(|(processor, (controller, (schedule, (words, (ioc, vidc)))))| MachineFile {
         processor,
         controller,
         schedule,
         words,
+        ioc,
+        vidc,
     })
 }
 

@@ -1,19 +1,20 @@
 ghost use Rattle.std.specs.Prelude.{◌≡◌, ◌↔◌, IfOk, codes, option_map, true};
 ghost use Rattle.toml.specs.Data.{get_member};
-ghost use Rattle.machine_file.specs.MachineFaultRules.{register_shape};
 ghost use Rattle.toml.specs.View.{table_view, view};
-ghost use Rattle.machine_file.specs.MachinePlaces.{IsMachineFaultAt, list_key, shape_in};
+ghost use Rattle.machine_file.specs.MachinePlaces.{IsMachineFaultAt, list_key, shape_in, shape_of, table_key};
 ghost use Rattle.machine_file.specs.MachinePlaceTests.{IsStored, entry_at, found, has_letter_twice, holds_of};
-ghost use Rattle.machine_file.specs.MachinePlaceTests.{is_no_list, is_no_table, is_second, is_unmappable};
-ghost use Rattle.machine_file.specs.MachinePlaceTests.{limit_of, part_gives, register_table, table_at};
+ghost use Rattle.machine_file.specs.MachinePlaceTests.{inner_table, is_no_list, is_no_table, is_second};
+ghost use Rattle.machine_file.specs.MachinePlaceTests.{is_unmappable, limit_of, part_gives, table_at};
 
 use crate::entries::{entry_at, is_no_list, is_no_table, number_at, table_at};
-use crate::faulty_keys::{is_same, listed_part_gives, own_part_gives, register_part_gives};
+use crate::faulty_keys::{inner_part_gives, is_same, listed_part_gives, own_part_gives};
 use crate::flags::is_single;
 use crate::machine_faults::MachineFileFault;
 use crate::pages::size_in;
 use crate::repeats::{is_set, number_repeats};
-use crate::spots::{EntryNumber, MachineList, MachineSpot, Part, list_key};
+use crate::spots::{
+    EntryNumber, MachineList, MachineSpot, MachineTable, Part, list_key, table_key,
+};
 use memc::PHYSICAL_PAGES;
 use std::alloc::{AllocError, Global};
 use toml::{Table, Value};
@@ -31,10 +32,10 @@ fn has_letter_twice(value: Option<&Value>) -> bool
     }
 }
 
-fn register_table(table: &Table) -> Option<&Table>
-    ensures { option_map (λ t. table_view t.now) result ≡ register_table (table_view table.now) }
+fn inner_table(table: &Table, inner: MachineTable) -> Option<&Table>
+    ensures { option_map (λ t. table_view t.now) result ≡ inner_table inner (table_view table.now) }
 {
-    match value_at(table, "registers") {
+    match value_at(table, table_key(inner)) {
         Some(value) => value.as_table(),
         None => None,
     }
@@ -112,14 +113,14 @@ impl<'a> MachineDocument<'a> {
         }
     }
 
-    // Whether the part of the table of registers has the fault.
-    fn register_gives(&self, part: Part<'_>, fault: MachineFileFault) -> bool
+    // Whether the part of a table has the fault.
+    fn inner_gives(&self, inner: MachineTable, part: Part<'_>, fault: MachineFileFault) -> bool
         ensures { result
-            ≡ holds_of (λ t. part_gives register_shape part.entry t fault)
-            (register_table (table_view self.now.table.now)) }
+            ≡ holds_of (λ t. part_gives (shape_of inner) part.entry t fault)
+            (inner_table inner (table_view self.now.table.now)) }
     {
-        match register_table(self.table) {
-            Some(table) => register_part_gives(table, part, fault),
+        match inner_table(self.table, inner) {
+            Some(table) => inner_part_gives(inner, table, part, fault),
             None => false,
         }
     }
@@ -150,12 +151,11 @@ impl<'a> MachineDocument<'a> {
         has_letter_twice(value_at(self.table, "flags"))
     }
 
-    // Whether what is at `registers` is no table.
-    fn has_no_registers(&self) -> bool
-        ensures { result
-            ≡ is_no_table (get_member (codes "registers") (table_view self.now.table.now)) }
+    // Whether what is at the key of a table is no table.
+    fn is_no_inner(&self, inner: MachineTable) -> bool
+        ensures { result ≡ is_no_table (get_member (table_key inner) (table_view self.now.table.now)) }
     {
-        is_no_table(value_at(self.table, "registers"))
+        is_no_table(value_at(self.table, table_key(inner)))
     }
 
     // Whether what is at the key of a list is no list.
@@ -179,8 +179,10 @@ impl<'a> MachineDocument<'a> {
         match spot {
             MachineSpot::Own(part) => own_part_gives(self.table, part, fault),
             MachineSpot::FlagTwice => is(MachineFileFault::Twice) && self.has_letter_twice(),
-            MachineSpot::NoRegisters => is(MachineFileFault::WrongKind) && self.has_no_registers(),
-            MachineSpot::Register(part) => self.register_gives(part, fault),
+            MachineSpot::NoInner(inner) => {
+                is(MachineFileFault::WrongKind) && self.is_no_inner(inner)
+            }
+            MachineSpot::Inner(inner, part) => self.inner_gives(inner, part, fault),
             MachineSpot::NoList(list) => is(MachineFileFault::WrongKind) && self.is_no_list(list),
             MachineSpot::NoTable(list, index) => {
                 is(MachineFileFault::WrongKind) && self.is_no_table(list, index)

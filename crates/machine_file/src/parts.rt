@@ -5,11 +5,13 @@ ghost use Rattle.machine_file.specs.Parts.{IsBuilt, IsInRange, HasNoneTwice, sta
 
 use crate::events::{MOST_STEPS, Schedule};
 use crate::flags::PsrFlags;
+use crate::ioc_settings::IocSetting;
 use crate::machine_faults::MachineFileFault;
 use crate::machine_files::MachineFile;
 use crate::pages::{Controller, MappedPage, Pages, RomFields, are_mappable, are_single};
 use crate::processor::{Processor, StartAddress};
 use crate::registers::Bank;
+use crate::vidc_settings::VidcSetting;
 use crate::words::{PutWords, have_own_addresses};
 use arm2_effect::Mode;
 use bus_ticks::is_word_address;
@@ -51,7 +53,7 @@ pub struct ScheduleParts {
     pub port: u32,
 }
 
-/// What a machine file states, but for events.
+/// What a machine file states, but for events, of a machine whose IOC and VIDC are as after a reset.
 #[derive(Drop)]
 pub struct MachineParts {
     pub processor: ProcessorParts,
@@ -141,11 +143,13 @@ fn built(alloc: Global, parts: MachineParts) -> Result<MachineFile, AllocError>
             events: IndexMap::new(alloc),
         },
         words: PutWords { words },
+        ioc: IocSetting::of_reset(),
+        vidc: VidcSetting::of_reset(),
     })
 }
 
 impl MachineFile {
-    /// The machine file that states the parts, without events.
+    /// The machine file that states the parts, without events, with IOC and VIDC as after a reset.
     ///
     /// # Errors
     ///

@@ -1,13 +1,14 @@
 //! What the keys of a machine file's tables take.
 
 ghost use Rattle.std.specs.Prelude.{◌≡◌, map};
-ghost use Rattle.machine_file.specs.MachineFaultRules.{file_shape};
+ghost use Rattle.machine_file.specs.MachineFaultRules.{file_shape, ioc_shape, vidc_shape};
 ghost use Rattle.machine_file.specs.MachinePlaces.{shape_in};
 ghost use Rattle.machine_file.specs.MachinePlaceTests.{row_of};
 
 use crate::events::{EVENT_KEYS, LAST_STEP, MOST_STEPS};
 use crate::pages::MAP_KEYS;
 use crate::spots::MachineList;
+use crate::vidc_settings::LAST_VALUE;
 use crate::words::WORD_KEYS;
 
 /// What a key takes.
@@ -21,6 +22,8 @@ pub(crate) enum Takes {
     PutAddress,
     /// The size of a page in KB.
     Size,
+    /// A byte of latched requests.
+    LatchedBits,
     /// The name of a mode.
     ModeName,
     /// Letters of flags.
@@ -53,12 +56,51 @@ const PAGE_ROWS: &[Row] = &[
 
 const EVENT_ROWS: &[Row] = &[
     ("step", Takes::UpTo(LAST_STEP), true),
-    ("bursts", Takes::UpTo(u16::MAX as u32), false),
+    ("bursts", HALF, false),
     ("lines", Takes::LineNames, false),
     ("port", WORD, false),
 ];
 
 const WORD_ROWS: &[Row] = &[("at", Takes::PutAddress, true), ("value", WORD, true)];
+
+const BYTE: Takes = Takes::UpTo(u8::MAX as u32);
+
+const HALF: Takes = Takes::UpTo(u16::MAX as u32);
+
+const TEN_BITS: Takes = Takes::UpTo(LAST_VALUE);
+
+const IOC_ROWS: &[Row] = &[
+    ("mask_a", BYTE, false),
+    ("mask_b", BYTE, false),
+    ("mask_fiq", BYTE, false),
+    ("requests_a", Takes::LatchedBits, false),
+    ("timer_0", HALF, false),
+    ("count_0", HALF, false),
+    ("timer_1", HALF, false),
+    ("count_1", HALF, false),
+];
+
+const VIDC_ROWS: &[Row] = &[
+    ("horizontal_cycle", TEN_BITS, false),
+    ("vertical_cycle", TEN_BITS, false),
+    ("display_end", TEN_BITS, false),
+    ("pixel_rate", Takes::UpTo(3), false),
+    ("ticks", WORD, false),
+];
+
+/// The rows of IOC's table.
+pub(crate) fn ioc_rows() -> &'static [Row]
+    ensures { map row_of result.now ≡ ioc_shape.rows }
+{
+    IOC_ROWS
+}
+
+/// The rows of VIDC's table.
+pub(crate) fn vidc_rows() -> &'static [Row]
+    ensures { map row_of result.now ≡ vidc_shape.rows }
+{
+    VIDC_ROWS
+}
 
 /// The rows of the file itself, but for the keys of its tables.
 pub(crate) fn file_rows() -> &'static [Row]

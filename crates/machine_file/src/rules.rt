@@ -1,18 +1,20 @@
-ghost use Rattle.std.specs.Prelude.{◌≡◌, ◌≤◌, ◌<◌, ◌^◌, All, IsTrue, true, length};
+ghost use Rattle.std.specs.Prelude.{◌≡◌, ◌≤◌, ◌<◌, ◌^◌, All, IfSome, IsTrue, true, length};
 ghost use Rattle.std.specs.List.{list_all};
 ghost use Rattle.std.specs.Map.{keys_of};
 ghost use Rattle.image.specs.Image.{may_hold};
 ghost use Rattle.memc.specs.Memory.{shift_of_size};
 ghost use Rattle.toml_reading.specs.Documents.{are_distinct};
 ghost use Rattle.bus_ticks.specs.Prices.{is_word_address};
-ghost use Rattle.machine_file.specs.MachineFile.{are_single, is_mappable};
-ghost use Rattle.machine_file.specs.Parts.{AreWords, IsInRange, HasNoneTwice};
+ghost use Rattle.machine_file.specs.MachineFile.{are_latched, are_single, is_mappable};
+ghost use Rattle.machine_file.specs.Parts.{AreWords, IsInRange, IsIocInRange, IsVidcInRange, HasNoneTwice};
 
 use crate::events::{MOST_STEPS, Schedule};
+use crate::ioc_settings::{IocSetting, Requests, TimerSetting};
 use crate::machine_files::MachineFile;
 use crate::pages::{Pages, RomFields};
 use crate::processor::StartAddress;
 use crate::registers::Bank;
+use crate::vidc_settings::{RateBits, TenBits, VidcSetting};
 use crate::words::PutWords;
 
 fn starts_at_word(start: &StartAddress)
@@ -61,11 +63,69 @@ fn is_bank(bank: &Bank)
     are_words(&bank.words);
 }
 
+fn is_byte(byte: u8)
+    ensures { byte ≤ 0xFF }
+{}
+
+fn is_count(timer: TimerSetting)
+    ensures latch { timer.latch ≤ 0xFFFF }
+    ensures count { IfSome timer.count (λ n. n ≤ 0xFFFF) }
+{}
+
+fn are_latched(requests: &Requests)
+    ensures { IsTrue (are_latched requests.now) }
+{
+    let _bits = requests.bits;
+}
+
+fn is_ioc(ioc: &IocSetting)
+    ensures { IsIocInRange ioc.now }
+{
+    is_byte(ioc.mask_a);
+    is_byte(ioc.mask_b);
+    is_byte(ioc.mask_fiq);
+    are_latched(&ioc.requests_a);
+    is_count(ioc.timer_0);
+    is_count(ioc.timer_1);
+}
+
+fn is_value(register: &TenBits)
+    ensures { register.now ≤ 0x3FF }
+{
+    let _value = register.value;
+}
+
+fn is_cycle(register: &Option<TenBits>)
+    ensures { IfSome register.now (λ n. n ≤ 0x3FF) }
+{
+    if let Some(register) = register {
+        is_value(register);
+    }
+}
+
+fn is_rate(rate: &RateBits)
+    ensures { rate.now ≤ 3 }
+{
+    let _bits = rate.bits;
+}
+
+fn is_vidc(vidc: &VidcSetting)
+    ensures { IsVidcInRange vidc.now }
+{
+    is_cycle(&vidc.horizontal_cycle);
+    is_cycle(&vidc.vertical_cycle);
+    is_value(&vidc.display_end);
+    is_rate(&vidc.pixel_rate);
+    let _ticks = vidc.ticks;
+}
+
 /// Every machine file keeps the rules of its parts. It does nothing.
 pub(crate) fn keeps_rules(file: &MachineFile)
     ensures in_range { IsInRange file.now }
     ensures once { HasNoneTwice file.now }
     ensures words { AreWords file.now }
+    ensures ioc { IsIocInRange file.now.ioc }
+    ensures vidc { IsVidcInRange file.now.vidc }
 {
     starts_at_word(&file.processor.pc);
     is_bank(&file.processor.registers);
@@ -73,4 +133,6 @@ pub(crate) fn keeps_rules(file: &MachineFile)
     are_pages(&file.controller.pages);
     are_steps(&file.schedule);
     are_put_words(&file.words);
+    is_ioc(&file.ioc);
+    is_vidc(&file.vidc);
 }

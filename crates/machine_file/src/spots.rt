@@ -1,7 +1,7 @@
 //! What of a machine file or of a cycle profile may have a fault.
 
 ghost use Rattle.std.specs.Prelude.{◌≡◌};
-ghost use Rattle.machine_file.specs.MachinePlaces.{list_key, number_key, number_list};
+ghost use Rattle.machine_file.specs.MachinePlaces.{list_key, number_key, number_list, table_key};
 ghost use Rattle.machine_file.specs.ProfilePlaces.{price_key};
 
 /// What of a table may have a fault: a key, by the bytes of its name.
@@ -13,6 +13,17 @@ pub enum Part<'a> {
     Value(&'a [u8]),
     /// A key that has to be there and is not.
     Missing(&'a [u8]),
+}
+
+/// A table in a machine file.
+#[derive(Clone, Copy)]
+pub enum MachineTable {
+    /// The words of the registers.
+    Registers,
+    /// IOC at the start.
+    Ioc,
+    /// VIDC at the start.
+    Vidc,
 }
 
 /// A list of tables in a machine file.
@@ -47,10 +58,10 @@ pub enum MachineSpot<'a> {
     Own(Part<'a>),
     /// The flags, of which a letter is there twice.
     FlagTwice,
-    /// The value at `registers`, which is no table.
-    NoRegisters,
-    /// A key of `registers`.
-    Register(Part<'a>),
+    /// The value at a table's key, which is no table.
+    NoInner(MachineTable),
+    /// A key of a table.
+    Inner(MachineTable, Part<'a>),
     /// The value at a list's key, which is no list.
     NoList(MachineList),
     /// An entry of a list, which is no table.
@@ -98,6 +109,17 @@ pub enum ProfileSpot<'a> {
     Price(usize),
     /// Two prices, or a price and the dearest of others.
     Disordered(PriceOrder),
+}
+
+/// The key of a table in a machine file.
+pub fn table_key(table: MachineTable) -> &'static str
+    ensures { result.now ≡ table_key table }
+{
+    match table {
+        MachineTable::Registers => "registers",
+        MachineTable::Ioc => "ioc",
+        MachineTable::Vidc => "vidc",
+    }
 }
 
 /// The key of a list in a machine file.

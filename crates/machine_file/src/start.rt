@@ -6,10 +6,12 @@ ghost use Rattle.machine_file.specs.Started.{IsController, IsResetMap, IsStarted
 ghost use Rattle.machine_file.specs.StartWork.{AreMapped, CanMap, IsSameRest, IsUnmapped, with_words};
 
 use crate::flags::PsrFlags;
+use crate::ioc_start::set_ioc;
 use crate::machine_files::MachineFile;
 use crate::pages::{Controller, MappedPage};
 use crate::processor::Processor;
 use crate::registers::REGISTERS;
+use crate::vidc_start::set_vidc;
 use arm2_effect::{Reg, r15_of};
 use arm2_exec::{Machine, MachineFault};
 use bus_ticks::Profile;
@@ -85,8 +87,8 @@ fn set_controller(memc: &mut Memc, controller: &Controller)
 
 impl MachineFile {
     /// The machine in the stated state, with the prices of a profile: as it is after a reset, but for the
-    /// registers, the page size, the ROM time fields and, where pages are mapped, the page map. The file's
-    /// words are not put into its memory.
+    /// registers, the page size, the ROM time fields, where pages are mapped the page map, and what the file
+    /// states of IOC and VIDC. The file's words are not put into its memory.
     ///
     /// # Errors
     ///
@@ -98,6 +100,8 @@ impl MachineFile {
         set_words(&mut machine, &REGISTERS, self.registers());
         machine.set(Reg::R15, r15_in(&self.processor));
         set_controller(machine.memc_mut(), &self.controller);
+        set_ioc(machine.ioc_mut(), &self.ioc);
+        set_vidc(machine.vidc_mut(), &self.vidc);
         Ok(machine)
     }
 }

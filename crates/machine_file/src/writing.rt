@@ -6,18 +6,24 @@ ghost use Rattle.toml.specs.Text.{IsDocumentText};
 ghost use Rattle.toml.specs.View.{table_view, view};
 ghost use Rattle.machine_file.specs.MachineFile.{IsMachineFile};
 ghost use Rattle.machine_file.specs.MachineRules.{kilobytes};
-ghost use Rattle.machine_file.specs.Written.{controller_rows, document_of, letter_if, letters_of, mode_name};
-ghost use Rattle.machine_file.specs.Written.{page_data, processor_rows, register_row, register_table};
-ghost use Rattle.machine_file.specs.Written.{schedule_rows, with_key, with_rows, word_data, word_list_rows};
+ghost use Rattle.machine_file.specs.Written.{byte_rows, controller_rows, cycle_rows, device_rows};
+ghost use Rattle.machine_file.specs.Written.{display_rows, document_of, ioc_rows, letter_if, letters_of};
+ghost use Rattle.machine_file.specs.Written.{mode_name, page_data, processor_rows, register_row};
+ghost use Rattle.machine_file.specs.Written.{register_table, schedule_rows, table_of, timer_rows, vidc_rows};
+ghost use Rattle.machine_file.specs.Written.{with_key, with_rows, word_data, word_list_rows};
 
 use crate::events::Schedule;
 use crate::flags::PsrFlags;
-use crate::keys::{list_value, set, set_number, set_optional, set_text, table_value, unless_zero};
+use crate::ioc_settings::{IocSetting, TimerSetting};
+use crate::keys::{
+    list_value, set, set_number, set_optional, set_text, some_number, table_value, unless_zero,
+};
 use crate::machine_files::MachineFile;
 use crate::pages::{Controller, MappedPage};
 use crate::processor::Processor;
 use crate::registers::NAMES;
 use crate::rules::keeps_rules;
+use crate::vidc_settings::{RateBits, TenBits, VidcSetting};
 use arm2_effect::Mode;
 use memc::PageSize;
 use std::alloc::{AllocError, Global};
@@ -198,7 +204,155 @@ fn set_put_words(alloc: Global, table: &mut Table, words: &[(u32, u32)]) -> Resu
     set_optional(alloc, table, "word", list_value(values))
 }
 
+// ## The devices
+
+fn set_timer(
+    alloc: Global,
+    table: &mut Table,
+    latch: &str,
+    count: &str,
+    timer: TimerSetting,
+) -> Result<(), AllocError>
+    ensures { IfOk result
+        (λ _. table_view table.new
+        ≡ with_rows (table_view table.old) (timer_rows latch.now count.now timer)) }
+{
+    set_optional(alloc, table, latch, unless_zero(u32::from(timer.latch)))?;
+    set_optional(alloc, table, count, some_number(timer.count.map(u32::from)))
+}
+
+fn set_bytes(alloc: Global, table: &mut Table, ioc: &IocSetting) -> Result<(), AllocError>
+    ensures { IfOk result
+        (λ _. table_view table.new
+        ≡ with_rows (table_view table.old) (byte_rows ioc.now)) }
+{
+    set_optional(alloc, table, "mask_a", unless_zero(u32::from(ioc.mask_a)))?;
+    set_optional(alloc, table, "mask_b", unless_zero(u32::from(ioc.mask_b)))?;
+    set_optional(
+        alloc,
+        table,
+        "mask_fiq",
+        unless_zero(u32::from(ioc.mask_fiq)),
+    )?;
+    set_optional(
+        alloc,
+        table,
+        "requests_a",
+        unless_zero(u32::from(ioc.requests_a.bits)),
+    )
+}
+
+fn set_ioc_rows(alloc: Global, table: &mut Table, ioc: &IocSetting) -> Result<(), AllocError>
+    ensures { IfOk result
+        (λ _. table_view table.new
+        ≡ with_rows (table_view table.old) (ioc_rows ioc.now)) }
+{
+    set_bytes(alloc, table, ioc)?;
+    set_timer(alloc, table, "timer_0", "count_0", ioc.timer_0)?;
+    set_timer(alloc, table, "timer_1", "count_1", ioc.timer_1)
+}
+
+fn ioc_table(alloc: Global, ioc: &IocSetting) -> Result<Table, AllocError>
+    ensures { IfOk result (λ table. table_view table ≡ table_of (ioc_rows ioc.now)) }
+{
+    let mut table = Table::new(alloc);
+    set_ioc_rows(alloc, &mut table, ioc)?;
+    Ok(table)
+}
+
+fn value_in(register: &TenBits) -> u32
+    ensures { result ≡ register.now }
+{
+    register.value
+}
+
+fn value_of(register: &Option<TenBits>) -> Option<u32>
+    ensures { result ≡ register.now }
+{
+    match register {
+        Some(register) => Some(register.value),
+        None => None,
+    }
+}
+
+fn rate_in(rate: &RateBits) -> u32
+    ensures { result ≡ rate.now }
+{
+    rate.bits
+}
+
+fn set_cycles(alloc: Global, table: &mut Table, vidc: &VidcSetting) -> Result<(), AllocError>
+    ensures { IfOk result
+        (λ _. table_view table.new
+        ≡ with_rows (table_view table.old) (cycle_rows vidc.now)) }
+{
+    let horizontal = some_number(value_of(&vidc.horizontal_cycle));
+    set_optional(alloc, table, "horizontal_cycle", horizontal)?;
+    let vertical = some_number(value_of(&vidc.vertical_cycle));
+    set_optional(alloc, table, "vertical_cycle", vertical)
+}
+
+fn set_display(alloc: Global, table: &mut Table, vidc: &VidcSetting) -> Result<(), AllocError>
+    ensures { IfOk result
+        (λ _. table_view table.new
+        ≡ with_rows (table_view table.old) (display_rows vidc.now)) }
+{
+    set_optional(
+        alloc,
+        table,
+        "display_end",
+        unless_zero(value_in(&vidc.display_end)),
+    )?;
+    set_optional(
+        alloc,
+        table,
+        "pixel_rate",
+        unless_zero(rate_in(&vidc.pixel_rate)),
+    )?;
+    set_optional(alloc, table, "ticks", unless_zero(vidc.ticks))
+}
+
+fn set_vidc_rows(alloc: Global, table: &mut Table, vidc: &VidcSetting) -> Result<(), AllocError>
+    ensures { IfOk result
+        (λ _. table_view table.new
+        ≡ with_rows (table_view table.old) (vidc_rows vidc.now)) }
+{
+    set_cycles(alloc, table, vidc)?;
+    set_display(alloc, table, vidc)
+}
+
+fn vidc_table(alloc: Global, vidc: &VidcSetting) -> Result<Table, AllocError>
+    ensures { IfOk result (λ table. table_view table ≡ table_of (vidc_rows vidc.now)) }
+{
+    let mut table = Table::new(alloc);
+    set_vidc_rows(alloc, &mut table, vidc)?;
+    Ok(table)
+}
+
+fn set_devices(alloc: Global, table: &mut Table, file: &MachineFile) -> Result<(), AllocError>
+    ensures { IfOk result
+        (λ _. table_view table.new
+        ≡ with_rows (table_view table.old) (device_rows file.now.ioc file.now.vidc)) }
+{
+    let ioc = ioc_table(alloc, &file.ioc)?;
+    set_optional(alloc, table, "ioc", table_value(ioc))?;
+    let vidc = vidc_table(alloc, &file.vidc)?;
+    set_optional(alloc, table, "vidc", table_value(vidc))
+}
+
 // ## The file
+
+// The words that are put into memory, and the devices.
+fn set_placed(alloc: Global, table: &mut Table, file: &MachineFile) -> Result<(), AllocError>
+    ensures rows { IfOk result
+        (λ _. table_view table.new
+        ≡ with_rows (table_view table.old)
+        (word_list_rows file.now.words ++ device_rows file.now.ioc file.now.vidc)) }
+    ensures bound { IfOk result (λ _. All (λ w. w.1 < 2 ^ 32) file.now.words) }
+{
+    set_put_words(alloc, table, &file.words.words)?;
+    set_devices(alloc, table, file)
+}
 
 fn document(alloc: Global, file: &MachineFile) -> Result<Table, AllocError>
     ensures document { IfOk result (λ table. table_view table ≡ document_of file.now) }
@@ -208,13 +362,13 @@ fn document(alloc: Global, file: &MachineFile) -> Result<Table, AllocError>
     set_processor(alloc, &mut table, &file.processor)?;
     set_controller(alloc, &mut table, &file.controller)?;
     set_schedule(alloc, &mut table, &file.schedule)?;
-    set_put_words(alloc, &mut table, &file.words.words)?;
+    set_placed(alloc, &mut table, file)?;
     Ok(table)
 }
 
 /// The text of a machine file without events, which [`read_machine`](crate::machine_files::read_machine)
-/// reads back as the same file. It has all keys but those of registers that are 0, and of empty lists and
-/// tables.
+/// reads back as the same file. It has all keys but those of registers that are 0, of devices where these are
+/// as after a reset, and of empty lists and tables.
 ///
 /// # Errors
 ///

@@ -3,7 +3,9 @@ use arm2_exec::{Input, Machine};
 use bitflags::Flags;
 use bus_ticks::{Profile, RomTimes};
 use ioc::Lines;
-use machine_file::{Event, MachineFile, MachineFileFault, read_machine, read_profile};
+use machine_file::{
+    Event, MachineFile, MachineFileFault, read_machine, read_profile, write_machine,
+};
 use memc::{Memc, PageSize, Refused, Spot};
 use std::alloc::Global;
 use std::test::Fail;
@@ -255,5 +257,33 @@ const PROFILE: &[u8] = b"n = 2\ns = 1\nquad = 2\nrom = [4, 3, 2, 2]\nio = [8, 6,
 #[test]
 fn profiles(rt: HostRuntime) -> Result<(), Fail> {
     assert!(rt; read_profile(rt.alloc(), PROFILE)? == Profile::one());
+    Ok(())
+}
+
+// A count of 0 is not that of a latch, and a cycle of 0 is a cycle that was written.
+const DEVICES: &[u8] = b"pc = 0\n[ioc]\nmask_b = 0\nmask_fiq = 0x42\ntimer_0 = 9\ncount_0 = 0\n\
+    [vidc]\nvertical_cycle = 0\ndisplay_end = 0\nticks = 7\n";
+
+const WRITTEN: &str =
+    "flags = \"IF\"\nhigh_rom = 0\nlow_rom = 0\nmode = \"svc\"\npages = 4\npc = 0\n\
+    port = 0\nsteps = 65536\n\n[ioc]\ncount_0 = 0\nmask_fiq = 66\ntimer_0 = 9\n\n\
+    [vidc]\nticks = 7\nvertical_cycle = 0\n";
+
+fn is_written_as(alloc: Global, file: &MachineFile, wanted: &str) -> bool {
+    if !file.events().is_empty() {
+        return false;
+    }
+    match write_machine(alloc, file) {
+        Ok(text) => text.as_str() == wanted,
+        Err(_) => false,
+    }
+}
+
+#[test]
+fn written_devices(rt: HostRuntime) -> Result<(), Fail> {
+    let file = read_machine(rt.alloc(), DEVICES)?;
+    let is_written = is_written_as(rt.alloc(), &file, WRITTEN);
+    drop(file);
+    assert!(rt; is_written);
     Ok(())
 }

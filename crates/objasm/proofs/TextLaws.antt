@@ -7,8 +7,8 @@ use Rattle.std.specs.Prelude.{Option}
 use Rattle.objasm.specs.Exchanges.{exchange_of}
 use Rattle.objasm.specs.Names.{Meanings, Told, mapped}
 use Rattle.objasm.specs.Parts.{Part}
-use Rattle.objasm.specs.PlainLines.{Text, assert_text, behind, instruction_text, is_sum, joined, operation_text, kind_with, spaced_operands, word_with}
-use Rattle.objasm.specs.Words.{is_assert, is_nop, is_silent, word_text}
+use Rattle.objasm.specs.PlainLines.{Text, assert_text, behind, instruction_text, is_sum, joined, ltorg_text, operation_text, kind_with, spaced_operands, word_with}
+use Rattle.objasm.specs.Words.{is_assert, is_ltorg, is_nop, is_silent, word_text}
 use Rattle.objasm.specs.declared.exchanges.Flip.{Flip}
 use Rattle.objasm.specs.declared.faults.LineFault.{LineFault}
 
@@ -61,6 +61,10 @@ unfolding operation_text
 operation_put m word ps e old mid new sum is put ok =
     rw (sum, is) (behind_front old mid (word_text (word_with word e)) (spaced_operands m (kind_with word e) ps) put ∙ ok)
 
-pub assert_put : (m : Meanings) (word : List ℕ) (ps : List Part) (old : List ℕ) → is_nop word ≡ false → is_silent word ≡ false → is_assert word ≡ true → assert_text m ps ≡ Ok []
+pub assert_put : (m : Meanings) (word : List ℕ) (ps : List Part) (old : List ℕ) → is_nop word ≡ false → is_silent word ≡ false → is_ltorg word ≡ false → is_assert word ≡ true → assert_text m ps ≡ Ok []
     → behind old (instruction_text m word ps) ≡ Ok old
-assert_put m word ps old nop silent assert is = rw (nop, silent, assert, is) (nothing_behind old)
+assert_put m word ps old nop silent ltorg assert is = rw (nop, silent, ltorg, assert, is) (nothing_behind old)
+
+pub ltorg_put : (m : Meanings) (word : List ℕ) (ps : List Part) (old : List ℕ) → is_nop word ≡ false → is_silent word ≡ false → is_ltorg word ≡ true → ltorg_text ps ≡ Ok []
+    → behind old (instruction_text m word ps) ≡ Ok old
+ltorg_put m word ps old nop silent ltorg is = rw (nop, silent, ltorg, is) (nothing_behind old)

@@ -6,7 +6,8 @@ use Rattle.objasm.specs.declared.faults.LineFault.TheVariants.{NameMissing, BadE
 use Rattle.objasm.specs.declared.faults.LineFault.TheVariants.{NoValue, BadRegister, BadOperand, NotANumber}
 use Rattle.objasm.specs.declared.faults.LineFault.TheVariants.{NotLogical}
 use Rattle.objasm.specs.declared.faults.LineFault.TheVariants.{AssertionFailed, ConditionMissing, ElseTwice}
-use Rattle.objasm.specs.declared.faults.LineFault.TheVariants.{ConditionOpen, ConditionTooDeep}
+use Rattle.objasm.specs.declared.faults.LineFault.TheVariants.{ConditionOpen, ConditionTooDeep, PoolMissing}
+use Rattle.objasm.specs.declared.faults.LineFault.TheVariants.{Scattered}
 
 abbrev pub name : LineFault → List ℕ
 name Memory = codes "Memory"
@@ -26,3 +27,5 @@ name ConditionMissing = codes "ConditionMissing"
 name ElseTwice = codes "ElseTwice"
 name ConditionOpen = codes "ConditionOpen"
 name ConditionTooDeep = codes "ConditionTooDeep"
+name PoolMissing = codes "PoolMissing"
+name Scattered = codes "Scattered"

@@ -12,5 +12,6 @@ pub mod Conditions
 pub mod Words
 pub mod Exchanges
 pub mod PlainLines
+pub mod Literals
 pub mod Source
 pub mod Laws

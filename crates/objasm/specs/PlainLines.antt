@@ -11,8 +11,8 @@ use Rattle.objasm.specs.Parts.{Part, Run, Byte, after_blanks, after_field, first
 use Rattle.objasm.specs.Parts.{is_over, is_stop, lone_run}
 use Rattle.objasm.specs.Settings.{Setting, setting_of, truth_of, value_of}
 use Rattle.objasm.specs.Symbols.{begins_number}
-use Rattle.objasm.specs.Words.{is_adr, is_assert, is_directive, is_nop, is_silent, kind_of, sum_word}
-use Rattle.objasm.specs.Words.{word_text}
+use Rattle.objasm.specs.Words.{is_adr, is_assert, is_directive, is_ltorg, is_nop, is_silent, kind_of}
+use Rattle.objasm.specs.Words.{sum_word, word_text}
 use Rattle.objasm.specs.declared.exchanges.Flip.{Flip}
 use Rattle.objasm.specs.declared.faults.LineFault.{LineFault}
 use Rattle.objasm.specs.declared.faults.LineFault.TheVariants.{AssertionFailed, BadOperand, NameTwice}
@@ -197,6 +197,10 @@ sum_line m word ps = behind (word_text (sum_word word)) (spaced_operands m Sums 
 abbrev pub nop_text : List Part → Text
 nop_text ps = if is_over (after_blanks ps) then Ok (codes "MOV R0,R0") else Err BadOperand
 
+-- nothing, where nothing is behind the word
+abbrev pub ltorg_text : List Part → Text
+ltorg_text ps = if is_over (after_blanks ps) then Ok [] else Err BadOperand
+
 -- nothing, where the expression holds
 abbrev pub asserted : Bool → Text
 asserted holds = if holds then Ok [] else Err AssertionFailed
@@ -215,6 +219,7 @@ abbrev pub instruction_text : Meanings → List ℕ → List Part → Text
 instruction_text m word ps =
     if is_nop word then nop_text ps
     else if is_silent word then Ok []
+    else if is_ltorg word then ltorg_text ps
     else if is_assert word then assert_text m ps
     else if is_directive word then Err UnknownDirective
     else operation_text m word ps

@@ -1,7 +1,6 @@
 -- The words of ObjAsm that have a meaning of their own.
-use Rattle.std.specs.Prelude.{ℕ, ◌+◌, ◌==◌, ◌||◌, nat_lt, Bool, false, List, [], ◌∷◌, ◌++◌, codes, length}
-use Rattle.std.specs.Prelude.{take}
-use Rattle.std.specs.Prelude.{drop}
+use Rattle.std.specs.Prelude.{ℕ, ◌+◌, ◌==◌, ◌&&◌, ◌||◌, not, nat_lt, Bool, false, List, [], ◌∷◌, ◌++◌, codes}
+use Rattle.std.specs.Prelude.{length, take, drop}
 use Rattle.std.specs.Prelude.{if◌then◌else◌}
 use Rattle.std.specs.List.{list_any}
 use Rattle.std.specs.Str.{bytes_eq}
@@ -23,6 +22,10 @@ is_silent word = is_one_of silent word
 abbrev pub is_assert : List ℕ → Bool
 is_assert word = bytes_eq word (codes "ASSERT")
 
+-- the words that are loaded stand here
+abbrev pub is_ltorg : List ℕ → Bool
+is_ltorg word = bytes_eq word (codes "LTORG")
+
 -- directives that are not translated
 abbrev pub directives : List (List ℕ)
 directives =
@@ -31,7 +34,7 @@ directives =
     ∷ codes "ENDIF" ∷ codes "EQU" ∷ codes "FIELD" ∷ codes "FN" ∷ codes "GBLA" ∷ codes "GBLL"
     ∷ codes "GBLS" ∷ codes "GET"
     ∷ codes "GLOBAL" ∷ codes "IF" ∷ codes "IMPORT" ∷ codes "INCBIN" ∷ codes "INCLUDE" ∷ codes "INFO"
-    ∷ codes "LCLA" ∷ codes "LCLL" ∷ codes "LCLS" ∷ codes "LEAF" ∷ codes "LIB" ∷ codes "LNK" ∷ codes "LTORG"
+    ∷ codes "LCLA" ∷ codes "LCLL" ∷ codes "LCLS" ∷ codes "LEAF" ∷ codes "LIB" ∷ codes "LNK"
     ∷ codes "MACRO" ∷ codes "MAP" ∷ codes "MEND" ∷ codes "MEXIT" ∷ codes "NOFP" ∷ codes "RLIST" ∷ codes "RN"
     ∷ codes "ROUT" ∷ codes "SETA" ∷ codes "SETL" ∷ codes "SETS" ∷ codes "SPACE" ∷ codes "STRONG"
     ∷ codes "WEND" ∷ codes "WHILE" ∷ []
@@ -50,6 +53,28 @@ sum_word word =
     if nat_lt (length word) 3 then word
     else if bytes_eq (take 3 word) (codes "ADR") then codes "ADD" ++ drop 3 word
     else codes "add" ++ drop 3 word
+
+abbrev pub load_heads : List (List ℕ)
+load_heads = codes "LDR" ∷ codes "ldr" ∷ []
+
+abbrev pub byte_ends : List (List ℕ)
+byte_ends = codes "BT" ∷ codes "bt" ∷ []
+
+-- nothing, or the two letters of a condition
+abbrev pub may_end_load : List ℕ → Bool
+may_end_load end = length end == 0 || (length end == 2 && not (is_one_of byte_ends end))
+
+-- LDR of a word, with a condition or none
+abbrev pub is_load : List ℕ → Bool
+is_load word =
+    if nat_lt (length word) 3 then false else is_one_of load_heads (take 3 word) && may_end_load (drop 3 word)
+
+-- MOV for LDR, and mov for ldr
+abbrev pub moved_word : List ℕ → List ℕ
+moved_word word =
+    if nat_lt (length word) 3 then word
+    else if bytes_eq (take 3 word) (codes "LDR") then codes "MOV" ++ drop 3 word
+    else codes "mov" ++ drop 3 word
 
 abbrev pub is_nop : List ℕ → Bool
 is_nop word = bytes_eq word (codes "NOP") || bytes_eq word (codes "nop")

@@ -31,8 +31,8 @@ const NEGATED_HEADS: [&[u8]; 8] = [
     b"ADD", b"SUB", b"CMP", b"CMN", b"add", b"sub", b"cmp", b"cmn",
 ];
 
-// Whether a number is a byte that is rotated by an even number of places.
-fn is_rotated(n: u32) -> bool
+/// Whether a number is a byte that is rotated by an even number of places.
+pub(crate) fn is_rotated(n: u32) -> bool
     ensures { result ≡ is_rotated n }
 {
     for k in 0..16u32 {

@@ -14,7 +14,8 @@ pub enum LineFault {
     /// A directive of ObjAsm that is not translated, or a sign where a word stands.
     #[error("UnknownDirective")]
     UnknownDirective,
-    /// What is to be set begins with a digit or is the name of a register.
+    /// What is to be set begins with a digit or is the name of a register, or a name begins as those of words
+    /// that are loaded do: with `literal_` and a digit.
     #[error("BadName")]
     BadName,
     /// A name that is set before, or the label of a line that is a name set.
@@ -61,6 +62,12 @@ pub enum LineFault {
     /// A condition inside 64 others.
     #[error("ConditionTooDeep")]
     ConditionTooDeep,
+    /// A number or a label that is loaded behind the last LTORG, where no END follows.
+    #[error("PoolMissing")]
+    PoolMissing,
+    /// What stands for a line does not lie side by side, as an ORG is among it.
+    #[error("Scattered")]
+    Scattered,
 }
 
 impl From<AllocError> for LineFault {
@@ -102,6 +109,8 @@ impl LineFault {
             LineFault::ElseTwice => b"ElseTwice",
             LineFault::ConditionOpen => b"ConditionOpen",
             LineFault::ConditionTooDeep => b"ConditionTooDeep",
+            LineFault::PoolMissing => b"PoolMissing",
+            LineFault::Scattered => b"Scattered",
         }
     }
 }

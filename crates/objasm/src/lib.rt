@@ -1,10 +1,11 @@
 //! Sources in the dialect of Acorn's assembler ObjAsm, in our grammar.
 //!
-//! Each line stands for one of ours, whose number is the same: a line that sets a name, and one that a
-//! condition leaves out, for a comment. The text is gone through three times: twice for the names, so that a
-//! line may set one by another that is set below it, and then for what stands for each line. What no
-//! definition names is left as it stands, and `assembler` judges it; directives that are not known are
-//! refused here.
+//! Each line stands for one of ours: a line that sets a name, and one that a condition leaves out, for a
+//! comment. LTORG and the end of the source stand for several, where words are loaded above: behind the line
+//! itself one for each. Which line of the author's each comes from is kept. The text is gone through three
+//! times: twice for the names, so that a line may set one by another that is set below it, and then for what
+//! stands for each line. What no definition names is left as it stands, and `assembler` judges it; directives
+//! that are not known are refused here.
 //!
 //! No ObjAsm was at hand. The levels of operators follow its manual; what it would give for a division with a
 //! number of 2^31 or more, and for a shift by 32 places or more, was not known, so these are refused.
@@ -17,6 +18,7 @@ mod evaluation;
 mod exchanges;
 mod faults;
 mod law;
+mod literals;
 mod maps;
 mod names;
 mod numbers;

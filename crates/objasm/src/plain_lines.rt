@@ -7,7 +7,8 @@ ghost use Rattle.objasm.specs.PlainLines.{address_in, assert_text, behind, body_
 ghost use Rattle.objasm.specs.PlainLines.{field_text, hex_literal};
 ghost use Rattle.objasm.specs.PlainLines.{instruction_text, is_address, is_label, is_label_field, is_sum};
 ghost use Rattle.objasm.specs.PlainLines.{kind_with};
-ghost use Rattle.objasm.specs.PlainLines.{literal_at, literal_of, literal_text, lone, nop_text, number_text};
+ghost use Rattle.objasm.specs.PlainLines.{literal_at, literal_of, literal_text, lone, ltorg_text, nop_text};
+ghost use Rattle.objasm.specs.PlainLines.{number_text};
 ghost use Rattle.objasm.specs.PlainLines.{offset_text, operands_text, operation_text, part_text, parts_text};
 ghost use Rattle.objasm.specs.PlainLines.{place_text, placed_text, plain_text};
 ghost use Rattle.objasm.specs.PlainLines.{register_text, run_text, spaced_operands, statement_text};
@@ -27,7 +28,8 @@ use crate::token::{
     Token, after_blanks, after_field, first_field, front_blanks, is_over, is_stop, lone_run,
 };
 use crate::words::{
-    Operands, is_adr, is_assert, is_directive, is_nop, is_silent, kind_of, put_word_text, sum_word,
+    Operands, is_adr, is_assert, is_directive, is_ltorg, is_nop, is_silent, kind_of, put_word_text,
+    sum_word,
 };
 use asm_text::{read_hex, read_number};
 use itoa::Buffer;
@@ -131,7 +133,7 @@ fn literal_of<'a>(tokens: &[Token<'a>]) -> Option<Literal<'a>>
     literal_at(after_blanks(tokens))
 }
 
-fn put_decimal(out: &mut Vec<u8>, n: u32) -> Result<(), AllocError>
+pub(crate) fn put_decimal(out: &mut Vec<u8>, n: u32) -> Result<(), AllocError>
     ensures { OnOk result (out.new.items ≡ out.old.items ++ decimal n) }
 {
     let mut buffer = Buffer::new();
@@ -206,7 +208,11 @@ fn put_part(names: &Names, token: Token<'_>, out: &mut Vec<u8>) -> Result<(), Al
     }
 }
 
-fn put_parts(names: &Names, tokens: &[Token<'_>], out: &mut Vec<u8>) -> Result<(), AllocError>
+pub(crate) fn put_parts(
+    names: &Names,
+    tokens: &[Token<'_>],
+    out: &mut Vec<u8>,
+) -> Result<(), AllocError>
     ensures { OnOk result
         (out.new.items ≡ out.old.items ++ parts_text (meanings_of names.now) (map part_of tokens.now)) }
 {
@@ -455,6 +461,18 @@ fn put_nop(tokens: &[Token<'_>], out: &mut Vec<u8>) -> Result<(), LineFault>
     }
 }
 
+// Refuses what stands behind LTORG.
+fn ltorg_alone(tokens: &[Token<'_>]) -> Result<(), LineFault>
+    ensures ok { OnOk result (ltorg_text (map part_of tokens.now) ≡ Ok []) }
+    ensures fault { IfErr result (λ fault. Told fault (ltorg_text (map part_of tokens.now))) }
+{
+    if is_over(after_blanks(tokens)) {
+        Ok(())
+    } else {
+        Err(LineFault::BadOperand)
+    }
+}
+
 // Refuses an assertion that does not hold.
 fn assert_holds(alloc: Global, names: &Names, tokens: &[Token<'_>]) -> Result<(), LineFault>
     ensures ok { OnOk result (assert_text (meanings_of names.now) (map part_of tokens.now) ≡ Ok []) }
@@ -575,6 +593,9 @@ fn put_instruction(
     }
     if is_silent(word) {
         return Ok(());
+    }
+    if is_ltorg(word) {
+        return ltorg_alone(tokens);
     }
     if is_assert(word) {
         return assert_holds(alloc, names, tokens);

@@ -1,38 +1,49 @@
 ghost use Rattle.std.specs.Prelude.{◌≡◌, ◌≤◌, ◌||◌, ◌∷◌, ◌++◌, [], false, IfOk, IfErr, OnOk, Ok, length};
-ghost use Rattle.std.specs.Prelude.{map};
-ghost use Rattle.std.specs.List.{range_with_len};
+ghost use Rattle.std.specs.Prelude.{eqb, map};
+ghost use Rattle.std.specs.List.{dedup, range_with_len};
 ghost use Rattle.std.specs.Str.{bytes_eq};
 ghost use Rattle.asm_text.specs.Pieces.{first_blank};
 ghost use Rattle.asm_text.specs.Source.{lines_of};
 ghost use Rattle.objasm.specs.Conditions.{all_closed, open_in};
-ghost use Rattle.objasm.specs.Names.{Meanings, Told, meanings_of};
+ghost use Rattle.objasm.specs.Literals.{no_pool, pool_of};
+ghost use Rattle.objasm.specs.Names.{Meanings, Told, mapped, meanings_of};
 ghost use Rattle.objasm.specs.Parts.{part_of, parts};
-ghost use Rattle.objasm.specs.Source.{FaultedAt, body, body_len, ends, fault_at, flow_in, is_end};
-ghost use Rattle.objasm.specs.Source.{line_settled, line_shown, meanings_in, plain_body, plain_lines, plain_of};
-ghost use Rattle.objasm.specs.Source.{set_if, settings, shown_behind, shown_line, stripped, taken_line};
-ghost use Rattle.objasm.specs.Source.{translated, trimmed};
+ghost use Rattle.objasm.specs.Source.{FaultedAt, assembled_line, body, body_len, end_given, ends, fault_at};
+ghost use Rattle.objasm.specs.Source.{flow_in};
+ghost use Rattle.objasm.specs.Source.{given_if, is_end, is_ltorg_at, is_ltorg_line, line_settled, line_shown};
+ghost use Rattle.objasm.specs.Source.{lines_behind, meanings_in, no_lines, nothing_waits, plain_lines};
+ghost use Rattle.objasm.specs.Source.{plain_of, pool_lines, set_if, settings, shown, shown_line, state_in, stripped};
+ghost use Rattle.objasm.specs.Source.{taken_line, translated, trimmed, with_lines};
 ghost use Rattle.objasm.specs.declared.source.DialectFault.TheVariants.{Memory};
 
 use crate::conditions::{
     Conditions, innermost, is_hidden, is_taken, no_conditions, step_conditions,
 };
 use crate::faults::LineFault;
+use crate::literals::{Pool, line_text, no_pool};
 use crate::maps::{Pass, settle};
 use crate::names::Names;
-use crate::plain_lines::put_body;
-use crate::token::{Token, tokens};
+use crate::token::{Token, after_blanks, tokens};
+use crate::words::is_ltorg;
 use asm_text::{first_line, is_blank};
-use std::alloc::{AllocError, Global};
+use std::alloc::{AllocError, AllocFailed, Global};
 use thiserror::Error;
 
 /// A text of the dialect in our grammar.
 #[derive(Drop)]
 pub struct PlainSource {
     /// Its lines, each ended by LF: what stands for a line of the author's, and that line as a comment behind
-    /// it where it is not the same.
+    /// it where it is not the same; behind those of LTORG and the end the words that are loaded.
     pub text: Vec<u8>,
     /// The number, from 1, of the author's line that each line comes from.
     pub origins: Vec<usize>,
+}
+
+// The words that wait, and the lines so far.
+#[derive(Drop)]
+struct Output {
+    pool: Pool,
+    plain: PlainSource,
 }
 
 // A line, its number from 1, and whether the source ends at it or above it.
@@ -58,6 +69,14 @@ impl From<AllocError> for DialectFault {
     ghost from_gives = { λ _ fault. fault ≡ Memory };
 
     fn from(_refused: AllocError) -> DialectFault {
+        DialectFault::Memory
+    }
+}
+
+impl<T: Drop> From<AllocFailed<T>> for DialectFault {
+    ghost from_gives = { λ _ fault. fault ≡ Memory };
+
+    fn from(_refused: AllocFailed<T>) -> DialectFault {
         DialectFault::Memory
     }
 }
@@ -242,96 +261,156 @@ fn put_ended(out: &mut Vec<u8>, plain: &[u8], line: &[u8]) -> Result<(), AllocEr
     Ok(())
 }
 
-// What stands for a line, if it is not hidden.
-fn plain_body(
-    alloc: Global,
-    names: &Names,
-    is_hidden: bool,
-    parts: &[Token<'_>],
-) -> Result<Vec<u8>, LineFault>
-    ensures ok { IfOk result
-        (λ plain. plain_body is_hidden (meanings_of names.now) (map part_of parts.now) ≡ Ok plain.items) }
-    ensures fault { IfErr result
-        (λ fault. Told fault (plain_body is_hidden (meanings_of names.now) (map part_of parts.now))) }
+// Puts what is shown of a line.
+fn put_shown_line(out: &mut PlainSource, text: &[u8], place: Place<'_>) -> Result<(), AllocError>
+    ensures { OnOk result
+        (plain_of out.new
+        ≡ with_lines (plain_of out.old) (shown place.entry.number text.now place.entry.line.now)) }
 {
-    let mut plain = Vec::new(alloc);
-    if is_hidden {
-        return Ok(plain);
-    }
-    put_body(alloc, names, parts, &mut plain)?;
-    Ok(plain)
+    put_ended(&mut out.text, text, place.line)?;
+    out.origins.push(place.number)?;
+    Ok(())
 }
 
-// Puts what is shown of a line in front of the end, and notes what it says of conditions.
+// Puts a number once for each line of a text.
+fn put_origins(text: &[u8], number: usize, origins: &mut Vec<usize>) -> Result<(), AllocError>
+    ensures { OnOk result
+        (origins.new.items ≡ origins.old.items ++ map (λ _. number) (lines_of text.now)) }
+{
+    let mut rest = text;
+    while let Some((_, after)) = first_line(rest) {
+        origins.push(number)?;
+        rest = after;
+    }
+    Ok(())
+}
+
+fn put_pool_lines(pool: &Pool, number: usize, out: &mut PlainSource) -> Result<(), AllocError>
+    ensures { OnOk result
+        (plain_of out.new ≡ with_lines (plain_of out.old) (pool_lines number (pool_of pool.now))) }
+{
+    out.text.extend_from_slice(&pool.lines)?;
+    put_origins(&pool.lines, number, &mut out.origins)
+}
+
+// Puts the words that wait, if the line of this number gives them.
+fn give_if(alloc: Global, gives: bool, number: usize, out: &mut Output) -> Result<(), AllocError>
+    ensures { OnOk result
+        ((pool_of out.new.pool, plain_of out.new.plain)
+        ≡ given_if gives number (pool_of out.old.pool) (plain_of out.old.plain)) }
+{
+    if gives {
+        put_pool_lines(&out.pool, number, &mut out.plain)?;
+        out.pool = no_pool(alloc);
+    }
+    Ok(())
+}
+
+fn is_ltorg_at(parts: &[Token<'_>]) -> bool
+    ensures { result ≡ is_ltorg_at (map part_of parts.now) }
+{
+    match parts {
+        [Token::Run(word), ..] => is_ltorg(word),
+        _ => false,
+    }
+}
+
+fn is_ltorg_line(parts: &[Token<'_>]) -> bool
+    ensures { result ≡ is_ltorg_line (map part_of parts.now) }
+{
+    match parts {
+        [Token::Run(_), rest @ ..] => is_ltorg_at(after_blanks(rest)),
+        _ => is_ltorg_at(after_blanks(parts)),
+    }
+}
+
+// Puts what stands for a line that is assembled.
+fn put_assembled(
+    alloc: Global,
+    names: &Names,
+    place: Place<'_>,
+    parts: &[Token<'_>],
+    out: &mut Output,
+) -> Result<(), LineFault>
+    ensures ok { OnOk result
+        (lines_behind (plain_of out.old.plain)
+        (assembled_line (meanings_of names.now) place.entry.number (pool_of out.old.pool)
+        (map part_of parts.now) place.entry.line.now)
+        ≡ Ok (pool_of out.new.pool, plain_of out.new.plain)) }
+    ensures fault { IfErr result (λ fault. Told fault
+        (assembled_line (meanings_of names.now) place.entry.number (pool_of out.old.pool)
+        (map part_of parts.now) place.entry.line.now)) }
+{
+    let text = line_text(alloc, names, &mut out.pool, place.number, parts)?;
+    put_shown_line(&mut out.plain, &text, place)?;
+    give_if(alloc, is_ltorg_line(parts), place.number, out)?;
+    Ok(())
+}
+
+// Puts what stands for the line of the end, or for one below it.
+#[tactic(auto, using(crate::proofs::SourceLaws::ended))]
+fn put_end(alloc: Global, place: Place<'_>, out: &mut Output) -> Result<(), AllocError>
+    ensures { OnOk result
+        (lines_behind (plain_of out.old.plain)
+        (end_given place.entry.number (pool_of out.old.pool) place.entry.line.now)
+        ≡ Ok (pool_of out.new.pool, plain_of out.new.plain)) }
+{
+    put_shown_line(&mut out.plain, &[], place)?;
+    give_if(alloc, true, place.number, out)?;
+    Ok(())
+}
+
+// Puts what stands for a line in front of the end, and notes what it says of conditions.
+#[tactic(auto, using(crate::proofs::SourceLaws::behind_conditions))]
 fn put_taken(
     alloc: Global,
     names: &Names,
     conditions: &mut Conditions,
     place: Place<'_>,
-    out: &mut Vec<u8>,
+    out: &mut Output,
 ) -> Result<(), LineFault>
     ensures ok { OnOk result
-        (shown_behind out.old.items
-        (taken_line (flow_in (meanings_of names.now) (open_in conditions.old)) place.entry.number
-        (parts (body place.entry.line.now)) place.entry.line.now)
-        ≡ Ok (open_in conditions.new, out.new.items)) }
+        (lines_behind (plain_of out.old.plain)
+        (taken_line (meanings_of names.now) (state_in (open_in conditions.old) (pool_of out.old.pool))
+        place.entry.number (parts (body place.entry.line.now)) place.entry.line.now)
+        ≡ Ok (state_in (open_in conditions.new) (pool_of out.new.pool), plain_of out.new.plain)) }
     ensures fault { IfErr result (λ fault. Told fault
-        (taken_line (flow_in (meanings_of names.now) (open_in conditions.old)) place.entry.number
-        (parts (body place.entry.line.now)) place.entry.line.now)) }
+        (taken_line (meanings_of names.now) (state_in (open_in conditions.old) (pool_of out.old.pool))
+        place.entry.number (parts (body place.entry.line.now)) place.entry.line.now)) }
 {
     let parts = tokens(alloc, &place.line[..body_len(place.line)])?;
     let is_hidden = is_hidden(conditions, &parts);
     step_conditions(alloc, names, conditions, place.number, &parts)?;
-    let plain = plain_body(alloc, names, is_hidden, &parts)?;
-    put_ended(out, &plain, place.line)?;
-    Ok(())
+    if is_hidden {
+        put_shown_line(&mut out.plain, &[], place)?;
+        return Ok(());
+    }
+    put_assembled(alloc, names, place, &parts, out)
 }
 
-// Puts what is shown of a line.
+// Puts what stands for a line.
+#[tactic(auto, using(crate::proofs::SourceLaws::behind_conditions))]
 fn put_line(
     alloc: Global,
     names: &Names,
     conditions: &mut Conditions,
     place: Place<'_>,
-    out: &mut Vec<u8>,
+    out: &mut Output,
 ) -> Result<(), LineFault>
     ensures ok { OnOk result
-        (shown_behind out.old.items
-        (line_shown place.entry.is_below (flow_in (meanings_of names.now) (open_in conditions.old))
-        place.entry.number place.entry.line.now)
-        ≡ Ok (open_in conditions.new, out.new.items)) }
+        (lines_behind (plain_of out.old.plain)
+        (line_shown place.entry.is_below (meanings_of names.now)
+        (state_in (open_in conditions.old) (pool_of out.old.pool)) place.entry.number place.entry.line.now)
+        ≡ Ok (state_in (open_in conditions.new) (pool_of out.new.pool), plain_of out.new.plain)) }
     ensures fault { IfErr result (λ fault. Told fault
-        (line_shown place.entry.is_below (flow_in (meanings_of names.now) (open_in conditions.old))
-        place.entry.number place.entry.line.now)) }
+        (line_shown place.entry.is_below (meanings_of names.now)
+        (state_in (open_in conditions.old) (pool_of out.old.pool)) place.entry.number place.entry.line.now)) }
 {
     if place.is_below {
-        put_ended(out, &[], place.line)?;
+        put_end(alloc, place, out)?;
         return Ok(());
     }
     put_taken(alloc, names, conditions, place, out)
-}
-
-fn put_next(
-    alloc: Global,
-    names: &Names,
-    conditions: &mut Conditions,
-    place: Place<'_>,
-    plain: &mut PlainSource,
-) -> Result<(), LineFault>
-    ensures ok { OnOk result
-        (shown_behind plain.old.text.items
-        (line_shown place.entry.is_below (flow_in (meanings_of names.now) (open_in conditions.old))
-        place.entry.number place.entry.line.now)
-        ≡ Ok (open_in conditions.new, plain.new.text.items)) }
-    ensures origins { OnOk result
-        (plain.new.origins.items ≡ plain.old.origins.items ++ place.entry.number ∷ []) }
-    ensures fault { IfErr result (λ fault. Told fault
-        (line_shown place.entry.is_below (flow_in (meanings_of names.now) (open_in conditions.old))
-        place.entry.number place.entry.line.now)) }
-{
-    put_line(alloc, names, conditions, place, &mut plain.text)?;
-    plain.origins.push(place.number)?;
-    Ok(())
 }
 
 // Whether a line is the end of the source, or below it.
@@ -341,15 +420,33 @@ fn is_below(ended: bool, conditions: &Conditions, line: &[u8]) -> bool
     ended || ends(conditions, line)
 }
 
+// The lines, unless words wait at the end.
+fn given(out: Output) -> Result<PlainSource, DialectFault>
+    ensures ok { IfOk result (λ p.
+        mapped (with_lines (plain_of out.plain)) (nothing_waits (pool_of out.pool).first no_lines)
+        ≡ Ok (plain_of p)) }
+    ensures fault { IfErr result (λ fault.
+        FaultedAt fault (nothing_waits (pool_of out.pool).first no_lines)) }
+{
+    match out.pool.first {
+        Some(line) => Err(DialectFault::Line(LineFault::PoolMissing, line)),
+        None => Ok(out.plain),
+    }
+}
+
 fn plain_with(alloc: Global, names: &Names, source: &[u8]) -> Result<PlainSource, DialectFault>
     ensures ok { IfOk result (λ p.
-        plain_lines false (flow_in (meanings_of names.now) []) 1 (lines_of source.now) ≡ Ok (plain_of p)) }
-    ensures fault { IfErr result (λ fault.
-        FaultedAt fault (plain_lines false (flow_in (meanings_of names.now) []) 1 (lines_of source.now))) }
+        plain_lines false (meanings_of names.now) (state_in [] no_pool) 1 (lines_of source.now)
+        ≡ Ok (plain_of p)) }
+    ensures fault { IfErr result (λ fault. FaultedAt fault
+        (plain_lines false (meanings_of names.now) (state_in [] no_pool) 1 (lines_of source.now))) }
 {
-    let mut plain = PlainSource {
-        text: Vec::with_capacity(alloc, source.len())?,
-        origins: Vec::new(alloc),
+    let mut out = Output {
+        pool: no_pool(alloc),
+        plain: PlainSource {
+            text: Vec::with_capacity(alloc, source.len())?,
+            origins: Vec::new(alloc),
+        },
     };
     let mut conditions = no_conditions(alloc);
     let mut rest = source;
@@ -362,13 +459,13 @@ fn plain_with(alloc: Global, names: &Names, source: &[u8]) -> Result<PlainSource
             number,
             is_below: ended,
         };
-        if let Err(fault) = put_next(alloc, names, &mut conditions, place, &mut plain) {
+        if let Err(fault) = put_line(alloc, names, &mut conditions, place, &mut out) {
             return Err(fault_at(fault, number));
         }
         rest = after;
         number += 1;
     }
-    Ok(plain)
+    given(out)
 }
 
 // The text of the definitions.
@@ -380,7 +477,8 @@ fn translated(alloc: Global, source: &[u8]) -> Result<PlainSource, DialectFault>
     plain_with(alloc, &names, source)
 }
 
-/// A text of the dialect in our grammar, with one line for each of its lines.
+/// A text of the dialect in our grammar: for each of its lines a line, and behind those of LTORG and the end
+/// one for each word that is loaded above.
 ///
 /// # Errors
 ///
@@ -389,10 +487,9 @@ fn translated(alloc: Global, source: &[u8]) -> Result<PlainSource, DialectFault>
 /// the earliest of these times. `Memory`: an allocation failed.
 pub fn plain_source(alloc: Global, source: &[u8]) -> Result<PlainSource, DialectFault>
     ensures ok { IfOk result (λ p. translated source.now ≡ Ok (plain_of p)) }
-    ensures lines { IfOk result
-        (λ p. length (lines_of p.text.items) ≡ length (lines_of source.now)) }
+    ensures lines { IfOk result (λ p. length p.origins.items ≡ length (lines_of p.text.items)) }
     ensures origins { IfOk result
-        (λ p. p.origins.items ≡ range_with_len 1 (length (lines_of source.now))) }
+        (λ p. dedup eqb p.origins.items ≡ range_with_len 1 (length (lines_of source.now))) }
     ensures fault { IfErr result (λ fault. FaultedAt fault (translated source.now)) }
 {
     translated(alloc, source)

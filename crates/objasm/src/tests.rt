@@ -2,7 +2,7 @@ use crate::faults::LineFault;
 use crate::source::{DialectFault, plain_source};
 
 // Texts of the dialect, and what stands for them.
-const TEXTS: [(&[u8], &[u8]); 23] = [
+const TEXTS: [(&[u8], &[u8]); 27] = [
     (
         b"a EQU 1\n b\n MOV R0,#a+2*3\n",
         b" ; a EQU 1\n b\n MOV R0,#7 ;  MOV R0,#a+2*3\n",
@@ -105,13 +105,32 @@ const TEXTS: [(&[u8], &[u8]); 23] = [
         b"[ 1=1\n [ 1=1\n |\n MOV R0,#1\n ]\n | \n [\n |\n x,\n ]\n]\n",
         b" ; [ 1=1\n ;  [ 1=1\n ;  |\n ;  MOV R0,#1\n ;  ]\n ;  | \n ;  [\n ;  |\n ;  x,\n ;  ]\n ; ]\n",
     ),
+    (
+        b" LDR R0,=5\n ldrne r1,=-1\n LTORG\nliteral_ DCD 1\n",
+        b" MOV R0,#5 ;  LDR R0,=5\n mvnne r1,#0 ;  ldrne r1,=-1\n ;  LTORG\nliteral_ DCD 1\n",
+    ),
+    (
+        b"t LDR R0,=&12345\n LDRLO r2,=74565\n LDR PC,=h\nh LTORG\n LDR R1,=&12345\n END\n x\n",
+        b"t LDR R0,literal_1 ; t LDR R0,=&12345\n LDRCC r2,literal_1 ;  LDRLO r2,=74565\n \
+          LDR PC,literal_3 ;  LDR PC,=h\nh ; h LTORG\nliteral_1 DCD 74565\nliteral_3 DCD h\n \
+          LDR R1,literal_5 ;  LDR R1,=&12345\n ;  END\nliteral_5 DCD 74565\n ;  x\n",
+    ),
+    (
+        b"n EQU &FF\nr RN 3\n LDR r,=n<<4\n LDR r , = n+&100\n END\n",
+        b" ; n EQU &FF\n ; r RN 3\n MOV R3,#4080 ;  LDR r,=n<<4\n \
+          LDR R3 ,literal_4 ;  LDR r , = n+&100\n ;  END\nliteral_4 DCD 511\n",
+    ),
+    (
+        b" [ 1=2\n LDR R0,=&12345\n LTORG\n ]\n",
+        b" ;  [ 1=2\n ;  LDR R0,=&12345\n ;  LTORG\n ;  ]\n",
+    ),
     (b"", b""),
 ];
 
 // Texts that are refused.
-const REFUSED: [(&[u8], LineFault, usize); 46] = [
+const REFUSED: [(&[u8], LineFault, usize); 54] = [
     (b"\n NOP R0\n", LineFault::BadOperand, 2),
-    (b" MOV R0,#1\n LTORG\n", LineFault::UnknownDirective, 2),
+    (b" MOV R0,#1\n ALIGN\n", LineFault::UnknownDirective, 2),
     (b" = 1,2\n", LineFault::UnknownDirective, 1),
     (b"a EQU 1\na * 2\n", LineFault::NameTwice, 2),
     (b"a EQU b\nb EQU c\nc EQU 1\n", LineFault::NameMissing, 1),
@@ -159,6 +178,18 @@ const REFUSED: [(&[u8], LineFault, usize); 46] = [
     (b" IF 4\n ENDIF\n", LineFault::NotLogical, 1),
     (b" [ 1=1\n ] x\n", LineFault::BadOperand, 2),
     (b" [ 1=2\n ELIF 1=1\n ]\n", LineFault::UnknownDirective, 2),
+    (
+        b"\n LDR R0,=&12345\n LDR R1,=&54321\n",
+        LineFault::PoolMissing,
+        2,
+    ),
+    (b" LDR R0,=1\n LTORG x\n", LineFault::BadOperand, 2),
+    (b"literal_1 DCD 0\n", LineFault::BadName, 1),
+    (b" MOV R0,#literal_2x\n", LineFault::BadName, 1),
+    (b" LDR R0,=R1\n END\n", LineFault::NameMissing, 1),
+    (b" LDR R0,=1,2\n", LineFault::BadExpression, 1),
+    (b" LDR R0,=\n", LineFault::BadExpression, 1),
+    (b" ^ 0,R1\na # 4\n LDR R0,=a\n", LineFault::NotANumber, 3),
     (b" [ 1=2\nl [ 1=1\n ]\n ]\n", LineFault::UnknownDirective, 2),
 ];
 

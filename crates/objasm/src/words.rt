@@ -1,9 +1,9 @@
 //! The words of ObjAsm that have a meaning of their own.
 
 ghost use Rattle.std.specs.Prelude.{◌≡◌, ◌++◌, IfOk, OnOk, map};
-ghost use Rattle.objasm.specs.Words.{cond_place, is_adr, is_assert, is_directive, is_nop, is_one_of};
-ghost use Rattle.objasm.specs.Words.{is_silent};
-ghost use Rattle.objasm.specs.Words.{kind_of, known_cond, sum_word, word_text};
+ghost use Rattle.objasm.specs.Words.{cond_place, is_adr, is_assert, is_directive, is_load};
+ghost use Rattle.objasm.specs.Words.{is_ltorg, is_nop, is_one_of, is_silent, kind_of, known_cond};
+ghost use Rattle.objasm.specs.Words.{may_end_load, moved_word, sum_word, word_text};
 
 use crate::exchanges::Flip;
 use std::alloc::{AllocError, Global};
@@ -25,6 +25,11 @@ pub enum Operands {
 
 const VALUE_WORDS: [&[u8]; 6] = [b"DCD", b"ORG", b"SWI", b"dcd", b"org", b"swi"];
 
+const LOADS: [&[u8]; 2] = [b"LDR", b"ldr"];
+
+// What follows LDR where it loads a byte, in two letters.
+const BYTE_ENDS: [&[u8]; 2] = [b"BT", b"bt"];
+
 const OFFSET_WORDS: [&[u8]; 4] = [b"LDR", b"STR", b"ldr", b"str"];
 
 // Directives that stand for nothing here.
@@ -32,12 +37,12 @@ const SILENT: [&[u8]; 7] = [
     b"AREA", b"ENTRY", b"EXPORT", b"KEEP", b"OPT", b"SUBT", b"TTL",
 ];
 
-const DIRECTIVES: [&[u8]; 50] = [
+const DIRECTIVES: [&[u8]; 49] = [
     b"ADRL", b"ALIGN", b"AOF", b"AOUT", b"BIN", b"CN", b"CP", b"DATA", b"DCB", b"DCFD", b"DCFS",
     b"DCW", b"ELSE", b"END", b"ENDIF", b"EQU", b"FIELD", b"FN", b"GBLA", b"GBLL", b"GBLS", b"GET",
     b"GLOBAL", b"IF", b"IMPORT", b"INCBIN", b"INCLUDE", b"INFO", b"LCLA", b"LCLL", b"LCLS",
-    b"LEAF", b"LIB", b"LNK", b"LTORG", b"MACRO", b"MAP", b"MEND", b"MEXIT", b"NOFP", b"RLIST",
-    b"RN", b"ROUT", b"SETA", b"SETL", b"SETS", b"SPACE", b"STRONG", b"WEND", b"WHILE",
+    b"LEAF", b"LIB", b"LNK", b"MACRO", b"MAP", b"MEND", b"MEXIT", b"NOFP", b"RLIST", b"RN",
+    b"ROUT", b"SETA", b"SETL", b"SETS", b"SPACE", b"STRONG", b"WEND", b"WHILE",
 ];
 
 /// Whether a word is one of those.
@@ -64,6 +69,13 @@ pub(crate) fn is_assert(word: &[u8]) -> bool
     ensures { result ≡ is_assert word.now }
 {
     word == b"ASSERT".as_slice()
+}
+
+/// Whether a word is LTORG.
+pub(crate) fn is_ltorg(word: &[u8]) -> bool
+    ensures { result ≡ is_ltorg word.now }
+{
+    word == b"LTORG".as_slice()
 }
 
 /// Whether a word is a directive of ObjAsm that is not translated.
@@ -144,6 +156,39 @@ pub(crate) fn sum_word(alloc: Global, word: &[u8]) -> Result<Vec<u8>, AllocError
     };
     sum.extend_from_slice(rest)?;
     Ok(sum)
+}
+
+fn may_end_load(end: &[u8]) -> bool
+    ensures { result ≡ may_end_load end.now }
+{
+    (end.len() == 0) | ((end.len() == 2) & !is_one_of(&BYTE_ENDS, end))
+}
+
+/// Whether a word is LDR with any condition.
+pub(crate) fn is_load(word: &[u8]) -> bool
+    ensures { result ≡ is_load word.now }
+{
+    if word.len() < 3 {
+        return false;
+    }
+    is_one_of(&LOADS, &word[..3]) & may_end_load(&word[3..])
+}
+
+/// MOV with the condition of an LDR.
+pub(crate) fn moved_word(alloc: Global, word: &[u8]) -> Result<Vec<u8>, AllocError>
+    ensures { IfOk result (λ moved. moved.items ≡ moved_word word.now) }
+{
+    if word.len() < 3 {
+        return Vec::from_slice(alloc, word);
+    }
+    let (head, rest) = word.split_at(3);
+    let mut moved = if head == b"LDR".as_slice() {
+        Vec::from_slice(alloc, b"MOV")?
+    } else {
+        Vec::from_slice(alloc, b"mov")?
+    };
+    moved.extend_from_slice(rest)?;
+    Ok(moved)
 }
 
 /// Whether a word is NOP.

@@ -4,7 +4,7 @@ use Rattle.handlers.specs.declared.fault.ReportFault.{ReportFault}
 use Rattle.handlers.specs.declared.fault.ReportFault.TheVariants as report_fault
 use Rattle.objasm.specs.Source.{FaultedAt, Plain, translated}
 
--- each of its lines has one in our grammar
+-- it has lines in our grammar
 abbrev pub IsTranslated : List ℕ → Type 0
 IsTranslated source = (plain : Plain) × (translated source ≡ Ok plain)
 

@@ -20,7 +20,8 @@ fn plain_text(alloc: Global, source: &[u8]) -> Result<Vec<u8>, ReportFault>
 }
 
 /// Writes a source in ObjAsm's dialect as a source in our grammar, one line for each: what stands for the
-/// line, and the line itself as a comment behind it where that is not the same.
+/// line, and the line itself as a comment behind it where that is not the same. Below LTORG and the end stand
+/// the words that are loaded.
 ///
 /// # Errors
 ///

@@ -1,2 +1,3 @@
+pub mod OriginLaws
 pub mod RowLaws
 pub mod SourceLaws

@@ -1,13 +1,15 @@
 -- Texts in ObjAsm's dialect, and what a text is in our grammar.
-use Rattle.std.specs.Prelude.{◌==◌, ◌&&◌, ℕ, Bool, true, List, [], codes, drop, length, take, Result, Ok, Err}
-use Rattle.std.specs.Prelude.{if◌then◌else◌, slice_index_or}
+use Rattle.std.specs.Prelude.{◌==◌, ◌&&◌, ◌-◌, ℕ, Bool, true, false, List, [], codes, drop, length, take}
+use Rattle.std.specs.Prelude.{Result, Ok, slice_index_or}
 use Rattle.std.specs.List.{prefix_len}
 use Rattle.std.specs.Str.{bytes_eq}
 use Rattle.asm_text.specs.Pieces.{is_blank}
 use Rattle.asm_text.specs.Source.{lines_of}
-use Rattle.objasm.specs.Source.{Plain, translated}
+use Rattle.objasm.specs.Names.{mapped}
+use Rattle.objasm.specs.Source.{Plain, plain_of, translated}
 use Rattle.objasm.specs.declared.faults.LineFault.{LineFault}
 use Rattle.sources.specs.File.{File}
+use Rattle.sources.specs.Origins.{Stretch, gathered, stretches_of}
 use Rattle.sources.specs.declared.file.Dialect.{Dialect}
 use Rattle.sources.specs.declared.file.Dialect.TheVariants.{Plain as OwnGrammar, Objasm}
 use Rattle.sources.specs.declared.dialect.PlainText.{PlainText}
@@ -38,14 +40,37 @@ is_written_in OwnGrammar text = begins_as_objasm text
 abbrev pub is_objasm : File → Bool
 is_objasm file = is_written_in file.dialect file.bytes
 
-abbrev pub text_alone : Result Plain (LineFault × ℕ) → Result (List ℕ) (LineFault × ℕ)
-text_alone (Ok plain) = Ok plain.text
-text_alone (Err fault) = Err fault
+-- a text in our grammar: its author's, or what stands for one in the dialect
+pub data InGrammar : Type 0 where
+  Own : (text : List ℕ) → InGrammar
+  From : Plain → InGrammar
+
+abbrev pub own_or : Bool → List ℕ → Result Plain (LineFault × ℕ) → Result InGrammar (LineFault × ℕ)
+own_or true text plain = mapped From plain
+own_or false text plain = Ok (Own text)
 
 -- what a text is in our grammar: itself, or what stands for the lines of the dialect
-abbrev pub plain_text : File → Result (List ℕ) (LineFault × ℕ)
-plain_text file = if is_objasm file then text_alone (translated file.bytes) else Ok file.bytes
+abbrev pub in_grammar : File → Result InGrammar (LineFault × ℕ)
+in_grammar file = own_or (is_objasm file) file.bytes (translated file.bytes)
 
-abbrev pub text_of : PlainText → List ℕ
-text_of (Same bytes) = bytes.now
-text_of (Translated bytes) = bytes.items
+abbrev pub text_of : InGrammar → List ℕ
+text_of (Own text) = text
+text_of (From plain) = plain.text
+
+-- the line that its line of a number comes from
+abbrev pub origin_of : InGrammar → ℕ → ℕ
+origin_of (Own text) number = number
+origin_of (From plain) number = slice_index_or plain.origins (number - 1) number
+
+-- the words of the author's lines, by those of the lines in our grammar
+abbrev pub places_by : InGrammar → List Stretch → Result (List Stretch) ℕ
+places_by (Own text) stretches = Ok stretches
+places_by (From plain) stretches = gathered plain.origins stretches
+
+-- where the author's lines are placed; or a line whose words do not lie side by side
+abbrev pub places_of : InGrammar → Result (List Stretch) ℕ
+places_of text = places_by text (stretches_of (text_of text))
+
+abbrev pub plain_view : PlainText → InGrammar
+plain_view (Same bytes) = Own bytes.now
+plain_view (Translated plain) = From (plain_of plain)

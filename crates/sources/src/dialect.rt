@@ -1,13 +1,17 @@
 //! Texts in ObjAsm's dialect, and what they are in our grammar.
 
-ghost use Rattle.std.specs.Prelude.{◌≡◌, IfErr, IfOk, Ok};
+ghost use Rattle.std.specs.Prelude.{◌≡◌, ◌-◌, IfErr, IfOk, Ok, map, slice_index_or};
 ghost use Rattle.objasm.specs.Source.{FaultedAt};
-ghost use Rattle.sources.specs.Dialect.{begins_as_objasm, is_objasm, plain_text, says_objasm, text_of};
+ghost use Rattle.sources.specs.Dialect.{begins_as_objasm, in_grammar, is_objasm, origin_of, places_by};
+ghost use Rattle.sources.specs.Dialect.{plain_view, says_objasm, text_of};
 ghost use Rattle.sources.specs.File.{file_of};
+ghost use Rattle.sources.specs.Origins.{scattered_at, stretch_of};
 
 use crate::file::{Dialect, SourceFile};
+use crate::origins::gathered;
 use asm_text::{after_blanks, first_line};
-use objasm::{DialectFault, plain_source};
+use assembler::PlacedLine;
+use objasm::{DialectFault, PlainSource, plain_source};
 use std::alloc::Global;
 
 // Whether a line is the comment that says the dialect, with nothing behind it but blanks.
@@ -40,13 +44,23 @@ fn is_objasm(file: SourceFile<'_>) -> bool
     }
 }
 
+// The number of the line that a line comes from, both from 1.
+fn line_from(origins: &[usize], number: usize) -> usize
+    ensures { result ≡ slice_index_or origins.now (number - 1) number }
+{
+    match origins.get(number.saturating_sub(1)) {
+        Some(origin) => *origin,
+        None => number,
+    }
+}
+
 /// What a text is in our grammar.
 #[derive(Drop)]
 pub enum PlainText<'a> {
     /// Its own bytes.
     Same(&'a [u8]),
-    /// What stands for its lines, which are in ObjAsm's dialect: a line for each.
-    Translated(Vec<u8>),
+    /// What stands for its lines, which are in ObjAsm's dialect.
+    Translated(PlainSource),
 }
 
 impl<'a> PlainText<'a> {
@@ -57,23 +71,55 @@ impl<'a> PlainText<'a> {
     ///
     /// `Line`, of a text in the dialect that cannot be translated. `Memory`: an allocation failed.
     pub fn read(alloc: Global, file: SourceFile<'a>) -> Result<PlainText<'a>, DialectFault>
-        ensures is { IfOk result (λ plain. plain_text (file_of file.entry) ≡ Ok (text_of plain)) }
-        ensures fault { IfErr result (λ fault. FaultedAt fault (plain_text (file_of file.entry))) }
+        ensures is { IfOk result (λ plain. in_grammar (file_of file.entry) ≡ Ok (plain_view plain)) }
+        ensures fault { IfErr result (λ fault. FaultedAt fault (in_grammar (file_of file.entry))) }
     {
         if !is_objasm(file) {
             return Ok(PlainText::Same(file.bytes));
         }
         let plain = plain_source(alloc, file.bytes)?;
-        Ok(PlainText::Translated(plain.text))
+        Ok(PlainText::Translated(plain))
     }
 
     /// The bytes in our grammar.
     pub fn bytes(&self) -> &[u8]
-        ensures { result.now ≡ text_of self.now }
+        ensures { result.now ≡ text_of (plain_view self.now) }
     {
         match self {
             PlainText::Same(bytes) => bytes,
-            PlainText::Translated(bytes) => bytes,
+            PlainText::Translated(plain) => &plain.text,
+        }
+    }
+
+    /// The number of the author's line that a line in our grammar comes from, both from 1.
+    pub fn origin(&self, number: usize) -> usize
+        ensures { result ≡ origin_of (plain_view self.now) number }
+    {
+        match self {
+            PlainText::Same(_) => number,
+            PlainText::Translated(plain) => line_from(&plain.origins, number),
+        }
+    }
+
+    /// Where the author's lines are placed, by the places of the lines in our grammar.
+    ///
+    /// # Errors
+    ///
+    /// `Line`, with `Scattered`: the words of a line do not lie side by side. `Memory`: an allocation failed.
+    pub(crate) fn places(
+        &self,
+        alloc: Global,
+        placed: Vec<PlacedLine>,
+    ) -> Result<Vec<PlacedLine>, DialectFault>
+        ensures ok { IfOk result (λ lines.
+            places_by (plain_view self.now) (map stretch_of placed.items)
+            ≡ Ok (map stretch_of lines.items)) }
+        ensures fault { IfErr result (λ fault. FaultedAt fault
+            (scattered_at (places_by (plain_view self.now) (map stretch_of placed.items)))) }
+    {
+        match self {
+            PlainText::Same(_) => Ok(placed),
+            PlainText::Translated(plain) => gathered(alloc, &plain.origins, &placed),
         }
     }
 }

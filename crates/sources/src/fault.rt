@@ -1,5 +1,5 @@
 ghost use Rattle.std.specs.Prelude.{◌≡◌};
-ghost use Rattle.sources.specs.Source.{of_dialect, of_image, of_text};
+ghost use Rattle.sources.specs.Source.{of_dialect, of_image};
 ghost use Rattle.sources.specs.declared.fault.SourceFault.TheVariants.{Memory};
 
 use assembler::AsmFault;
@@ -30,17 +30,6 @@ impl From<AllocError> for SourceFault {
 
     fn from(_refused: AllocError) -> SourceFault {
         SourceFault::Memory
-    }
-}
-
-impl From<AsmFault> for SourceFault {
-    ghost from_gives = { λ lower fault. fault ≡ of_text lower };
-
-    fn from(lower: AsmFault) -> SourceFault {
-        match lower {
-            AsmFault::Memory => SourceFault::Memory,
-            _ => SourceFault::Text(lower),
-        }
     }
 }
 

@@ -5,6 +5,7 @@
 mod dialect;
 mod fault;
 mod file;
+mod origins;
 mod read;
 mod source_rows;
 

@@ -1,14 +1,18 @@
-ghost use Rattle.std.specs.Prelude.{◌≡◌, true, false, Ok, IfErr, IfOk};
+ghost use Rattle.std.specs.Prelude.{◌≡◌, true, false, map, Ok, IfErr, IfOk};
+ghost use Rattle.assembler.specs.Sweeps.{assembled};
 ghost use Rattle.image.specs.ImageBytes.{is_image};
-ghost use Rattle.sources.specs.Dialect.{plain_text};
+ghost use Rattle.image.specs.Labels.{address_of};
+ghost use Rattle.sources.specs.Dialect.{in_grammar, plain_view, text_of};
 ghost use Rattle.sources.specs.Lines.{AreLines};
-ghost use Rattle.sources.specs.Source.{IsFaultOf, IsSource};
+ghost use Rattle.sources.specs.Origins.{stretch_of, stretches_of};
+ghost use Rattle.sources.specs.Source.{IsFaultIn, IsFaultOf, IsSource, of_text, said_by_plain};
 ghost use Rattle.sources.specs.File.{file_of};
 
 use crate::dialect::PlainText;
 use crate::fault::SourceFault;
 use crate::file::SourceFile;
-use assembler::{PlacedLine, Program, assemble, placed_lines};
+use asm_text::lines_are_spelled;
+use assembler::{AsmFault, Assembly, PlacedLine, Program, assemble, placed_lines};
 use image::{Image, Labels, is_image, read_image};
 use std::alloc::{AllocError, Global};
 use std::collections::BTreeMap;
@@ -33,23 +37,62 @@ pub struct Source<'a> {
     pub text: SourceText<'a>,
 }
 
+// Why a text cannot be assembled, with the author's line.
+fn text_fault(plain: &PlainText<'_>, fault: AsmFault) -> SourceFault
+    ensures { result ≡ of_text (plain_view plain.now) fault }
+{
+    match fault {
+        AsmFault::Memory => SourceFault::Memory,
+        AsmFault::Line(fault, number) => {
+            SourceFault::Text(AsmFault::Line(fault, plain.origin(number)))
+        }
+    }
+}
+
+// Where the lines in our grammar are placed.
+fn grammar_places(alloc: Global, plain: &PlainText<'_>) -> Result<Vec<PlacedLine>, SourceFault>
+    ensures ok { IfOk result (λ placed.
+        stretches_of (text_of (plain_view plain.now)) ≡ map stretch_of placed.items) }
+    ensures fault { IfErr result (λ fault.
+        IsFaultIn (said_by_plain (Ok (plain_view plain.now))) fault) }
+{
+    lines_are_spelled();
+    match placed_lines(alloc, plain.bytes()) {
+        Ok(placed) => Ok(placed),
+        Err(fault) => Err(text_fault(plain, fault)),
+    }
+}
+
+fn assembled(alloc: Global, plain: &PlainText<'_>) -> Result<Assembly, SourceFault>
+    ensures ok { IfOk result (λ made.
+        assembled (text_of (plain_view plain.now)) ≡ Ok (made.image, address_of made.labels)) }
+    ensures fault { IfErr result (λ fault.
+        IsFaultIn (said_by_plain (Ok (plain_view plain.now))) fault) }
+{
+    match assemble(alloc, plain.bytes()) {
+        Ok(assembly) => Ok(assembly),
+        Err(fault) => Err(text_fault(plain, fault)),
+    }
+}
+
 // A text, whose bytes do not begin as an image's, by what it is in our grammar.
 fn read_plain<'a>(
     alloc: Global,
-    plain: &[u8],
+    plain: &PlainText<'a>,
     file: SourceFile<'a>,
 ) -> Result<Source<'a>, SourceFault>
     requires text { is_image file.bytes.now ≡ false }
-    requires plain { plain_text (file_of file) ≡ Ok plain.now }
+    requires plain { in_grammar (file_of file) ≡ Ok (plain_view plain.now) }
     ensures is { IfOk result (IsSource (file_of file.entry)) }
     ensures fault { IfErr result (IsFaultOf (file_of file.entry)) }
 {
-    let placed = placed_lines(alloc, plain)?;
-    let assembly = assemble(alloc, plain)?;
+    let placed = grammar_places(alloc, plain)?;
+    let assembly = assembled(alloc, plain)?;
+    let places = plain.places(alloc, placed)?;
     Ok(Source {
         image: assembly.image,
         labels: assembly.labels,
-        text: SourceText::Lines(file.bytes, placed),
+        text: SourceText::Lines(file.bytes, places),
     })
 }
 
@@ -60,7 +103,7 @@ fn read_text<'a>(alloc: Global, file: SourceFile<'a>) -> Result<Source<'a>, Sour
     ensures fault { IfErr result (IsFaultOf (file_of file.entry)) }
 {
     let plain = PlainText::read(alloc, file)?;
-    read_plain(alloc, plain.bytes(), file)
+    read_plain(alloc, &plain, file)
 }
 
 // An image, whose bytes begin as one's.

@@ -10,12 +10,7 @@ use Rattle.std.proofs.lemmas.Slice.Zip.{AllZip-long}
 use Rattle.std.specs.Str.{bytes_eq}
 use Rattle.bus_ticks.specs.declared.profile.Profile.{Profile}
 use Rattle.asm_text.specs.Said.{Said, Codes, Refers, Orgs, Lists}
-use Rattle.asm_text.specs.Source.{lines_of}
-use Rattle.asm_text.specs.Spelling.{Spells}
-use Rattle.asm_text.specs.Statements.{Parsed, line_of}
 use Rattle.assembler.specs.Assembles.{AreWords, IsAssembly, IsTarget, Laid, Once, image_of, laid, places, addresses_from, word_count, words_at, words_from}
-use Rattle.assembler.specs.Placed.{ArePlaced, IsPlaced}
-use Rattle.assembler.proofs.PlaceLemmas.{Reads, one_passed}
 use Rattle.image.specs.Labels.{Names}
 use Rattle.assembler.specs.declared.placed_line.PlacedLine.{PlacedLine}
 use Rattle.image.specs.Image.{Words, with_word, word_of}
@@ -24,7 +19,6 @@ use Rattle.image.specs.declared.places.TheConstants.{MOST_SEGMENTS}
 use Rattle.image.specs.declared.reading.ReadFault.TheVariants.{OutOfRange, Truncated}
 use Rattle.image.proofs.AcceptLemmas.{count_parts, magic_parts, ok_parts, whole_part}
 use Rattle.image.proofs.SegmentLemmas.{can_stand, length_numbers}
-use Rattle.image.proofs.ZipLemmas.{AllZip-weaker}
 use Rattle.control_flow.specs.Flow.{Flow}
 use Rattle.control_flow.specs.Graph.{IsBuildFault, IsFlowGraph}
 use Rattle.control_flow.specs.declared.faults.BuildFault.{BuildFault}
@@ -126,14 +120,6 @@ at_most_once b (x ∷ xs) h =
       | inr other ↦ omega (arith, first b x xs, one_else b x other, at_most_once b xs h.1)
     ]
 
-same_places : (lines : List Laid) (placed : List PlacedLine) → AllZip IsPlaced lines placed → flat_map places lines ≡ flat_map words_of placed
-same_places [] [] h = refl
-same_places [] (p ∷ placed) h = absurd h
-same_places (line ∷ lines) [] h = absurd h
-same_places (line ∷ lines) (p ∷ placed) h =
-    let here : places line ≡ words_of p = ap (λ a. addresses_from a (word_count line.said)) (sym h.0.0) ∙ ap (addresses_from p.at) (sym h.0.1) in
-    ap (λ xs. xs ++ flat_map places lines) here ∙ ap (λ xs. words_of p ++ xs) (same_places lines placed h.1)
-
 exactly : (n m : ℕ) → 1 ≤ n → n ≡ m → m ≤ 1 → m ≡ 1
 exactly n m some same few = omega (arith, some, same, few)
 
@@ -143,13 +129,9 @@ stand : (words : Words) (flow_places : List Place) (all : List ℕ) → AreOnWor
 stand words flow_places all on same few Exit not_exit has = absurd (not_exit refl)
 stand words flow_places all on same few (At calls b) not_exit has = exactly (times b (ats words)) (times b all) (held b words (on calls b has)) (same b) (few b)
 
-pub source_stands : Reads → (source : List ℕ) (image : Words) (names : Names) (flow_places : List Place) (placed : List PlacedLine) → IsAssembly source image names → ArePlaced source placed
+pub source_stands : (source : List ℕ) (image : Words) (names : Names) (flow_places : List Place) (placed : List PlacedLine) (a : IsAssembly source image names) → flat_map places (laid a.lines) ≡ flat_map words_of placed
     → (Contains flow_places Exit → ⊥) → AreOnWords image flow_places → AreListedOnce flow_places (flat_map words_of placed)
-source_stands reads source image names flow_places placed a stand_there no_exit on =
-    let said : stand_there.lines ≡ a.lines = one_passed reads (lines_of source) stand_there.lines a.lines stand_there.passed
-    (AllZip-weaker (λ line p. Spells p line) (λ line p. line_of line ≡ Ok p) reads (lines_of source) a.lines a.read) in
-    let there : flat_map places (laid a.lines) ≡ flat_map words_of placed =
-    same_places (laid a.lines) placed (subst (λ (ls : List Parsed). AllZip IsPlaced (laid ls) placed) said stand_there.places) in
+source_stands source image names flow_places placed a there no_exit on =
     let all = all_words names (laid a.lines) a.words a.coded in
     λ p has. stand image flow_places (flat_map words_of placed) on
     (λ b. ap (λ (i : Words). times b (ats i)) a.image-is ∙ filled_from b (words_at (laid a.lines) a.words) ∙ ap (times b) (all ∙ there))

@@ -15,6 +15,8 @@ use Rattle.sources.specs.Source.{HasText, IsSource, source_of}
 use Rattle.sources.specs.declared.read.Source.{Source}
 use Rattle.sources.specs.declared.read.SourceText.{SourceText}
 use Rattle.sources.specs.declared.read.SourceText.TheVariants.{Lines, Image}
+use Rattle.sources.specs.Dialect.{text_of}
+use Rattle.sources.proofs.OriginLaws.{all_listed}
 use Rattle.sources.proofs.SourceLaws.{image_was_read, text_was_assembled}
 use Rattle.text_explained.specs.Table.{all_ticks, listed_words}
 use Rattle.text_explained.specs.Taken.{AreListedOnce, AreOnWords, taken_at}
@@ -33,9 +35,9 @@ module _ (reads : Reads) (are_one : AreOne) (file : File) where
   listed : (words : Words) (names : Names) (text : SourceText) (flow : Flow) → IsWellFormed flow → source_of file ≡ Ok (words, names) → HasText file text → AreOnWords words flow.places
       → AreListedOnce flow.places (listed_words words text)
   listed words names (Lines own placed) flow well said has on =
-      let plain = has.2.0 in
-      let read = has.2.1 in
-      source_stands reads plain words names flow.places placed.items (are_one plain words names (text_was_assembled file plain words names has.0 read said)) has.2.2 well.no_exit on
+      let its = has.2 in
+      let assembly = are_one (text_of its.text) words names (text_was_assembled file its.text words names has.0 its.is said) in
+      source_stands (text_of its.text) words names flow.places placed.items assembly (all_listed reads its.text assembly.lines placed.items assembly.read its.places) well.no_exit on
   listed words names Image flow well said has on = image_stands file.bytes words flow.places (image_was_read file words names has said) well.no_exit on
 
   pub listed_once : (source : Source) (flow : Flow) → IsWellFormed flow → IsSource file source → AreOnWords source.image flow.places

@@ -186,7 +186,7 @@ part_of (part.Missing k) = part.Missing (lent k.now)
 
 abbrev pub machine_spot_of : MachineSpot → MachineSpot
 machine_spot_of (machine.Own p) = machine.Own (part_of p)
-machine_spot_of (machine.Register p) = machine.Register (part_of p)
+machine_spot_of (machine.Inner table p) = machine.Inner table (part_of p)
 machine_spot_of (machine.Listed list n p) = machine.Listed list n (part_of p)
 machine_spot_of s = s
 

@@ -3,15 +3,17 @@
 use Rattle.std.specs.Prelude.{◌==◌, ◌++◌, ℕ, List, [], ◌∷◌, codes, length}
 use Rattle.std.specs.Prelude.{Option, Some, None, if◌then◌else◌}
 use Rattle.std.specs.Str.{bytes_eq}
-use Rattle.machine_file.specs.MachinePlaces.{list_key, number_key, shape_in}
+use Rattle.machine_file.specs.MachinePlaces.{list_key, number_key, shape_in, table_key}
 use Rattle.machine_file.specs.declared.spots.EntryNumber.{EntryNumber}
 use Rattle.machine_file.specs.declared.spots.EntryNumber.TheVariants.{Logical, Physical, Level, Step, Address}
 use Rattle.machine_file.specs.declared.spots.MachineList.{MachineList}
 use Rattle.machine_file.specs.declared.spots.MachineList.TheVariants.{Pages, Events, Words}
 use Rattle.machine_file.specs.declared.spots.MachineSpot.{MachineSpot}
-use Rattle.machine_file.specs.declared.spots.MachineSpot.TheVariants.{FlagTwice, Listed, NoList, NoRegisters}
-use Rattle.machine_file.specs.declared.spots.MachineSpot.TheVariants.{NoTable, Own, Register, Second}
+use Rattle.machine_file.specs.declared.spots.MachineSpot.TheVariants.{FlagTwice, Inner, Listed, NoInner}
+use Rattle.machine_file.specs.declared.spots.MachineSpot.TheVariants.{NoList, NoTable, Own, Second}
 use Rattle.machine_file.specs.declared.spots.MachineSpot.TheVariants.{Unmappable}
+use Rattle.machine_file.specs.declared.spots.MachineTable.{MachineTable}
+use Rattle.machine_file.specs.declared.spots.MachineTable.TheVariants.{Registers, Ioc, Vidc}
 use Rattle.machine_file.specs.declared.spots.Part.{Part}
 use Rattle.machine_file.specs.declared.spots.Part.TheVariants.{Missing, Unknown, Value}
 use Rattle.text_refusals.specs.Courses.{inner_key, key_head}
@@ -27,8 +29,15 @@ abbrev pub machine_tables : TableKeys
 machine_tables =
     record {
       lists = list_key Pages ∷ list_key Events ∷ list_key Words ∷ [];
-      tables = codes "registers" ∷ [];
+      tables = table_key Registers ∷ table_key Ioc ∷ table_key Vidc ∷ [];
     }
+
+-- the table that a word names
+abbrev pub named_table : List ℕ → Option MachineTable
+named_table w =
+    if bytes_eq w (table_key Registers) then Some Registers
+    else (if bytes_eq w (table_key Ioc) then Some Ioc
+    else (if bytes_eq w (table_key Vidc) then Some Vidc else None))
 
 -- ## Keys
 
@@ -36,20 +45,24 @@ machine_tables =
 abbrev pub key_spots : (Part → MachineSpot) → List ℕ → List MachineSpot → List MachineSpot
 key_spots part_at key rest = part_at (Unknown (lent key)) ∷ (part_at (Value (lent key)) ∷ rest)
 
--- a key of the table of registers, if it is one
-abbrev pub register_spots : List ℕ → List MachineSpot
-register_spots key = if length key == 0 then [] else key_spots Register key []
+-- a key of the table, if it is one
+abbrev pub inner_spots : MachineTable → List ℕ → List MachineSpot
+inner_spots table key = if length key == 0 then [] else key_spots (Inner table) key []
 
 abbrev pub no_list_spots : Option FileList → List MachineSpot
 no_list_spots (Some (Tables list)) = NoList list ∷ []
 no_list_spots _ = []
 
+-- what the key of a table or a list shows beside itself
+abbrev pub held_spots : Option MachineTable → List ℕ → List MachineSpot
+held_spots (Some table) key = NoInner table ∷ inner_spots table (inner_key key)
+held_spots None key = no_list_spots (named_list (key_head key))
+
 -- what a key of the file shows beside itself
 abbrev pub special_spots : List ℕ → List MachineSpot
 special_spots key =
     if bytes_eq (key_head key) (codes "flags") then FlagTwice ∷ []
-    else (if bytes_eq (key_head key) (codes "registers") then NoRegisters ∷ register_spots (inner_key key)
-    else no_list_spots (named_list (key_head key)))
+    else held_spots (named_table (key_head key)) key
 
 -- a key of the file itself, with dots or without
 abbrev pub own_spots : List ℕ → List MachineSpot
@@ -88,11 +101,13 @@ no_table_spots c _ = []
 
 -- ## What a value shows, and what a table
 
--- in a table of the file: a register, or a key of an entry
+-- in a table of the file: a key of it, or of an entry
+abbrev pub value_spots_in : Option MachineTable → FileCourse → List ℕ → List MachineSpot
+value_spots_in (Some table) c key = inner_spots table key
+value_spots_in None c key = entry_spots c.entry key
+
 abbrev pub inner_value_spots : FileCourse → KeyValue → List MachineSpot
-inner_value_spots c p =
-    if bytes_eq p.list (codes "registers") then register_spots (key_head p.key)
-    else entry_spots c.entry (key_head p.key)
+inner_value_spots c p = value_spots_in (named_table p.list) c (key_head p.key)
 
 abbrev pub flat_value_spots : FileCourse → KeyValue → List MachineSpot
 flat_value_spots c p = if length p.list == 0 then own_spots p.key else inner_value_spots c p
@@ -115,13 +130,19 @@ absent_spots (key ∷ keys) = Own (Missing (lent key)) ∷ absent_spots keys
 
 -- ## Words
 
+-- that the table has no such key
+abbrev pub no_key_words : MachineTable → List ℕ
+no_key_words Registers = codes " is no register"
+no_key_words Ioc = codes " is no key of ioc"
+no_key_words Vidc = codes " is no key of vidc"
+
 -- what is said of a table that shows the spot
 abbrev pub table_words : MachineSpot → List ℕ
 table_words (Own (Unknown k)) = codes " is no table of machine files"
 table_words (Own (Value k)) = codes " may be no table"
-table_words (Register (Unknown k)) = codes " is no register"
-table_words (Register (Value k)) = codes " may be no table"
-table_words NoRegisters = codes " has to be in single brackets"
+table_words (Inner table (Unknown k)) = no_key_words table
+table_words (Inner table (Value k)) = codes " may be no table"
+table_words (NoInner table) = codes " has to be in single brackets"
 table_words (NoList list) = codes " has to be in double brackets"
 table_words (Listed list n (Missing k)) = codes " has no " ++ k.now
 table_words _ = []

@@ -5,13 +5,14 @@ ghost use Rattle.std.specs.Str.{bytes_eq};
 ghost use Rattle.machine_file.specs.MachinePlaces.{number_key};
 ghost use Rattle.machine_file.specs.Names.{file_keys};
 ghost use Rattle.machine_file.specs.declared.spots.MachineList.TheVariants.{Pages};
-ghost use Rattle.machine_file.specs.declared.spots.MachineSpot.TheVariants.{NoRegisters};
+ghost use Rattle.machine_file.specs.declared.spots.MachineSpot.TheVariants.{NoInner};
+ghost use Rattle.text_refusals.specs.Courses.{key_head};
 ghost use Rattle.text_refusals.specs.FileRows.{machine_spot_of, spot_of};
 ghost use Rattle.text_refusals.specs.MachineSpots.{absent_spots, absent_words, entry_spots, flat_value_spots};
-ghost use Rattle.text_refusals.specs.MachineSpots.{inner_value_spots, missing_spots, named_number};
-ghost use Rattle.text_refusals.specs.MachineSpots.{no_list_spots, no_table_spots, number_spots, own_spots};
-ghost use Rattle.text_refusals.specs.MachineSpots.{register_spots, special_spots, table_spots, table_words};
-ghost use Rattle.text_refusals.specs.MachineSpots.{value_spots};
+ghost use Rattle.text_refusals.specs.MachineSpots.{held_spots, inner_spots, inner_value_spots, missing_spots};
+ghost use Rattle.text_refusals.specs.MachineSpots.{named_number, named_table, no_key_words, no_list_spots};
+ghost use Rattle.text_refusals.specs.MachineSpots.{no_table_spots, number_spots, own_spots, special_spots};
+ghost use Rattle.text_refusals.specs.MachineSpots.{table_spots, table_words, value_spots};
 ghost use Rattle.text_refusals.specs.Outline.{key_value_of, table_of};
 ghost use Rattle.text_refusals.specs.declared.asked_file.FileSpot.TheVariants.{Machine};
 ghost use Rattle.text_refusals.specs.declared.file_course.FileList.TheVariants.{Tables};
@@ -22,7 +23,8 @@ use crate::file_course::{FileCourse, FileList, entry_list, named_list, value_lis
 use crate::outline::{KeyValue, OutlineTable, TableKeys};
 use crate::report::put_with_key;
 use machine_file::{
-    EntryNumber, MACHINE_KEYS, MachineList, MachineSpot, Part, keys_in, number_key,
+    EntryNumber, MACHINE_KEYS, MachineList, MachineSpot, MachineTable, Part, keys_in, number_key,
+    table_key,
 };
 use std::alloc::AllocError;
 use text_rows::put;
@@ -30,8 +32,24 @@ use text_rows::put;
 /// The keys of a machine file whose values are tables.
 pub(crate) const MACHINE_TABLES: TableKeys = TableKeys {
     lists: &["map", "event", "word"],
-    tables: &["registers"],
+    tables: &["registers", "ioc", "vidc"],
 };
+
+// The table that a word names.
+fn named_table(word: &[u8]) -> Option<MachineTable>
+    ensures { result ≡ named_table word.now }
+{
+    if word == table_key(MachineTable::Registers).as_bytes() {
+        return Some(MachineTable::Registers);
+    }
+    if word == table_key(MachineTable::Ioc).as_bytes() {
+        return Some(MachineTable::Ioc);
+    }
+    if word == table_key(MachineTable::Vidc).as_bytes() {
+        return Some(MachineTable::Vidc);
+    }
+    None
+}
 
 fn put_spot<'a>(spots: &mut Vec<FileSpot<'a>>, spot: MachineSpot<'a>) -> Result<(), AllocError>
     ensures { OnOk result
@@ -42,17 +60,21 @@ fn put_spot<'a>(spots: &mut Vec<FileSpot<'a>>, spot: MachineSpot<'a>) -> Result<
     Ok(())
 }
 
-// Adds what a key of the table of registers shows, if it is one.
-fn put_register_spots<'a>(spots: &mut Vec<FileSpot<'a>>, key: &'a [u8]) -> Result<(), AllocError>
+// Adds what a key of the table shows, if it is one.
+fn put_inner_spots<'a>(
+    spots: &mut Vec<FileSpot<'a>>,
+    table: MachineTable,
+    key: &'a [u8],
+) -> Result<(), AllocError>
     ensures { OnOk result
         (map spot_of spots.new.items
-        ≡ map spot_of spots.old.items ++ map Machine (register_spots key.now)) }
+        ≡ map spot_of spots.old.items ++ map Machine (inner_spots table key.now)) }
 {
     if key.is_empty() {
         return Ok(());
     }
-    put_spot(spots, MachineSpot::Register(Part::Unknown(key)))?;
-    put_spot(spots, MachineSpot::Register(Part::Value(key)))
+    put_spot(spots, MachineSpot::Inner(table, Part::Unknown(key)))?;
+    put_spot(spots, MachineSpot::Inner(table, Part::Value(key)))
 }
 
 fn put_no_list_spots<'a>(
@@ -69,14 +91,31 @@ fn put_no_list_spots<'a>(
     }
 }
 
-// Adds what the table of registers, or a key in it, shows.
-fn put_registers_spots<'a>(spots: &mut Vec<FileSpot<'a>>, key: &'a [u8]) -> Result<(), AllocError>
+// Adds what the table, or a key in it, shows.
+fn put_table_key_spots<'a>(
+    spots: &mut Vec<FileSpot<'a>>,
+    table: MachineTable,
+    key: &'a [u8],
+) -> Result<(), AllocError>
     ensures { OnOk result
         (map spot_of spots.new.items
-        ≡ map spot_of spots.old.items ++ map Machine (NoRegisters ∷ register_spots key.now)) }
+        ≡ map spot_of spots.old.items ++ map Machine (NoInner table ∷ inner_spots table key.now)) }
 {
-    put_spot(spots, MachineSpot::NoRegisters)?;
-    put_register_spots(spots, key)
+    put_spot(spots, MachineSpot::NoInner(table))?;
+    put_inner_spots(spots, table, key)
+}
+
+// Adds what the key of a table or a list shows beside itself.
+fn put_held_spots<'a>(spots: &mut Vec<FileSpot<'a>>, key: &'a [u8]) -> Result<(), AllocError>
+    ensures { OnOk result
+        (map spot_of spots.new.items
+        ≡ map spot_of spots.old.items ++ map Machine (held_spots (named_table (key_head key.now)) key.now)) }
+{
+    let head = key_head(key);
+    match named_table(head) {
+        Some(table) => put_table_key_spots(spots, table, inner_key(key)),
+        None => put_no_list_spots(spots, named_list(head)),
+    }
 }
 
 // Adds what a key of the file shows beside itself.
@@ -85,14 +124,10 @@ fn put_special_spots<'a>(spots: &mut Vec<FileSpot<'a>>, key: &'a [u8]) -> Result
         (map spot_of spots.new.items
         ≡ map spot_of spots.old.items ++ map Machine (special_spots key.now)) }
 {
-    let head = key_head(key);
-    if head == b"flags".as_slice() {
+    if key_head(key) == b"flags".as_slice() {
         return put_spot(spots, MachineSpot::FlagTwice);
     }
-    if head == b"registers".as_slice() {
-        return put_registers_spots(spots, inner_key(key));
-    }
-    put_no_list_spots(spots, named_list(head))
+    put_held_spots(spots, key)
 }
 
 // Adds what a key of the file itself shows.
@@ -243,10 +278,10 @@ fn put_inner_value_spots<'a>(
         ≡ map spot_of spots.old.items
         ++ map Machine (inner_value_spots course.now (key_value_of pair.now))) }
 {
-    if pair.list == b"registers".as_slice() {
-        return put_register_spots(spots, key_head(pair.key));
+    match named_table(pair.list) {
+        Some(table) => put_inner_spots(spots, table, key_head(pair.key)),
+        None => put_entry_spots(spots, course.entry, key_head(pair.key)),
     }
-    put_entry_spots(spots, course.entry, key_head(pair.key))
 }
 
 // Adds what a value in no array shows.
@@ -325,6 +360,17 @@ pub(crate) fn put_absent_spots(spots: &mut Vec<FileSpot<'_>>) -> Result<(), Allo
     put_absent(spots, MACHINE_KEYS)
 }
 
+// That the table has no such key.
+fn no_key_words(table: MachineTable) -> &'static [u8]
+    ensures { result.now ≡ no_key_words table }
+{
+    match table {
+        MachineTable::Registers => b" is no register",
+        MachineTable::Ioc => b" is no key of ioc",
+        MachineTable::Vidc => b" is no key of vidc",
+    }
+}
+
 /// Adds what is said of a table that shows the spot.
 pub(crate) fn put_table_words(out: &mut Vec<u8>, spot: MachineSpot<'_>) -> Result<(), AllocError>
     ensures { OnOk result (out.new.items ≡ out.old.items ++ table_words (machine_spot_of spot.entry)) }
@@ -332,9 +378,9 @@ pub(crate) fn put_table_words(out: &mut Vec<u8>, spot: MachineSpot<'_>) -> Resul
     match spot {
         MachineSpot::Own(Part::Unknown(_)) => put(out, b" is no table of machine files"),
         MachineSpot::Own(Part::Value(_)) => put(out, b" may be no table"),
-        MachineSpot::Register(Part::Unknown(_)) => put(out, b" is no register"),
-        MachineSpot::Register(Part::Value(_)) => put(out, b" may be no table"),
-        MachineSpot::NoRegisters => put(out, b" has to be in single brackets"),
+        MachineSpot::Inner(table, Part::Unknown(_)) => put(out, no_key_words(table)),
+        MachineSpot::Inner(_, Part::Value(_)) => put(out, b" may be no table"),
+        MachineSpot::NoInner(_) => put(out, b" has to be in single brackets"),
         MachineSpot::NoList(_) => put(out, b" has to be in double brackets"),
         MachineSpot::Listed(_, _, Part::Missing(key)) => put_with_key(out, b" has no ", key),
         _ => Ok(()),

@@ -1,3 +1,3 @@
 n EQU 4*4
  LDR R0,=n
- LTORG
+ ALIGN

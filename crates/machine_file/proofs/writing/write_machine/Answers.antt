@@ -17,3 +17,5 @@ returns-in-Ok-clause-reads_back c =
     c.keeps_rules.ensures.once
     c.keeps_rules.ensures.words
     c.in_ok-table.ensures.bound
+    c.keeps_rules.ensures.ioc
+    c.keeps_rules.ensures.vidc

@@ -1,5 +1,4 @@
-use Rattle.objasm.proofs.FeedLaws.{ok_counted}
-use Rattle.objasm.proofs.SourceLaws.{ok_numbered}
+use Rattle.objasm.proofs.FeedLaws.{ok_counted, ok_numbered}
 use Rattle.objasm.proofs.source.plain_source.Goals as goal
 
 pub returns-clause-lines : goal.returns-clause-lines

@@ -1,8 +1,6 @@
-use Rattle.std.proofs.Common.{◌≡◌, ◌∙◌, Ok, ap}
-use Rattle.sources.specs.Dialect.{plain_text, text_of}
+use Rattle.sources.specs.File.{file_of}
 use Rattle.sources.proofs.SourceLaws.{dialect_refused}
 use Rattle.sources.proofs.read.read_text.Goals as goal
-use Rattle.sources.specs.File.{file_of}
 
 pub returns-in_err-plain-clause-fault : goal.returns-in_err-plain-clause-fault
 returns-in_err-plain-clause-fault c =

@@ -1,0 +1,3 @@
+ LDR R0,=nowhere
+ MOV PC,R14
+ END

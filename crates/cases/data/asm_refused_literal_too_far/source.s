@@ -1,0 +1,4 @@
+         MOV    R0,#1
+         LDR    R1,=&12345
+         ORG    &900C
+         LTORG

@@ -1,0 +1,3 @@
+r RN 4
+ LDR R0,=r
+ END
