@@ -19,8 +19,8 @@ use outputs::{Output, write_whole};
 use sources::{PlainText, Source, SourceFile};
 use std::alloc::{AllocError, Global};
 use text_refusals::{
-    FaultyLine, faulty_lines, faulty_text, given_text, graph_reason, loops_reason, machine_text, profile_text,
-    statement_reason, words_of,
+    FaultyLine, faulty_lines, faulty_text, given_text, graph_reason, loops_reason, machine_text,
+    profile_text, statement_reason, words_of,
 };
 
 /// The bytes of the files of a refused report, empty where it has no such file.
@@ -36,7 +36,16 @@ pub struct RefusedFiles<'a> {
     pub given: &'a [u8],
 }
 
-// Lines in our grammar with faults, as the author's lines that they come from.
+// A line in our grammar with a fault, as the author's line that it comes from.
+fn at_origin(plain: &PlainText<'_>, line: &FaultyLine) -> FaultyLine
+    ensures { result ≡ at_origin (plain_view plain.now) line.now }
+{
+    FaultyLine {
+        number: plain.origin(line.number),
+        fault: line.fault,
+    }
+}
+
 fn at_origins(
     alloc: Global,
     plain: &PlainText<'_>,
@@ -44,22 +53,14 @@ fn at_origins(
 ) -> Result<Vec<FaultyLine>, AllocError>
     ensures { IfOk result (λ own. own.items ≡ map (at_origin (plain_view plain.now)) lines.now) }
 {
-    let mut own = Vec::with_capacity(alloc, lines.len())?;
-    for line in lines {
-        own.push(FaultyLine {
-            number: plain.origin(line.number),
-            fault: line.fault,
-        })?;
-    }
-    Ok(own)
+    lines
+        .iter()
+        .map(|line| at_origin(plain, line))
+        .collect(alloc)
 }
 
 // The lines of a text that have faults in our grammar, as they stand in the text.
-fn lines_text(
-    alloc: Global,
-    bytes: &[u8],
-    plain: &PlainText<'_>,
-) -> Result<Vec<u8>, AllocError>
+fn lines_text(alloc: Global, bytes: &[u8], plain: &PlainText<'_>) -> Result<Vec<u8>, AllocError>
     ensures { IfOk result (λ text. HasFaultyRows bytes.now (plain_view plain.now) text.items) }
 {
     let lines = faulty_lines(alloc, plain.bytes())?;
