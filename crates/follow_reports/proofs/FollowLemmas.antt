@@ -1,5 +1,5 @@
 -- A report on a followed run, from what is found of a source, a statement and a machine file.
-use Rattle.std.proofs.Common.{◌≡◌, ◌≢◌, ◌∙◌, ◌⊎◌, ◌++◌, ◌∷◌, [], ℕ, ◌+◌, ◌≤◌, Bool, List, append_assoc, drop, length, take, Result, Ok, Err, sym, ap, subst}
+use Rattle.std.proofs.Common.{◌≡◌, ◌≢◌, ◌∙◌, ◌⊎◌, ◌++◌, ◌∷◌, [], ℕ, ◌+◌, ◌≤◌, Bool, List, append_assoc, drop, length, take, Result, Ok, Err, inl, inr, sym, ap, subst}
 use Rattle.std.specs.Prelude.{IfErr}
 use Rattle.std.proofs.lemmas.List.{length-append}
 use Rattle.bus_ticks.specs.declared.profile.Profile.{Profile}
@@ -23,10 +23,16 @@ use Rattle.numbered_walks.specs.declared.fault.WalkFault.TheVariants as walk_fau
 use Rattle.machine_file.specs.Started.{r15_in}
 use Rattle.machine_file.specs.Stated as machine_file
 use Rattle.kept_runs.specs.Judging.{IsMachineFor}
-use Rattle.kept_runs.specs.Arriving.{NeverArrives}
 use Rattle.kept_runs.specs.Keeping.{IsKeptRun, KeepsNone, KeepsTo}
-use Rattle.follow_reports.specs.FollowReport.{IsFollowRefused, IsFollowReport, IsFollowable, IsLoneText, IsRunText}
-use Rattle.follow_reports.specs.FollowWork.{IsJudgedRun, IsTallyText}
+use Rattle.follow_reports.specs.FollowEach.{IsEachReport, IsEachText}
+use Rattle.follow_reports.specs.FollowReport.{IsArrivalText, IsFollowRefused, IsFollowReport, IsFollowable, IsKeptText, IsRunText, IsStrayedText}
+use Rattle.follow_reports.specs.FollowText.{strayed_text, why_text}
+use Rattle.follow_reports.specs.FollowWork.{AreJudgedVisits, HasAllPlaces, IsJudgedRun, IsNextText, IsStrayedStep, IsTallyText}
+use Rattle.follow_reports.specs.RunWork.{IsKeptNext, IsNext, IsStrayedNext}
+use Rattle.follow_reports.specs.declared.run_visits.KeptVisit.{KeptVisit}
+use Rattle.follow_reports.specs.declared.run_visits.NextVisit.{NextVisit}
+use Rattle.follow_reports.specs.declared.run_visits.NextVisit.TheVariants as next
+use Rattle.follow_reports.specs.declared.run_visits.StrayedStep.{StrayedStep}
 use Rattle.follow_reports.specs.RunVisits.{KeepsWithin, NoneKeeps}
 use Rattle.handlers.specs.Keeping.{KeepsStatement, TakesAtMost}
 use Rattle.handlers.specs.Placing.{IsPlaced, IsRunRefused}
@@ -51,7 +57,7 @@ module _ (words : Words) (st : Stated) (flow : Flow) (tree : Tree) (of : IsTreeO
   by_tree is k = record { walk = k.walk; complete = k.complete; kept = kept_there flow st.loops tree of.instances k.walk k.kept; follows = k.follows }
 
 module _ (words : Words) (st : Stated) (flow : Flow) (tree : Tree) (of : IsTreeOf flow st.loops tree) (bound : ℕ) (s : State) (inputs : List Input) where
-  at_most : RunLaw → IsGreatestCost flow st.loops bound → (steps ticks : ℕ) (by_place : List Passed) (after : State)
+  pub at_most : RunLaw → IsGreatestCost flow st.loops bound → (steps ticks : ℕ) (by_place : List Passed) (after : State)
       → IsKeptRun words st flow tree s inputs steps ticks by_place after → ticks ≤ bound
   at_most law greatest steps ticks by_place after k =
       let most : TakesAtMost flow.profile bound (take steps inputs) k.ran =
@@ -74,28 +80,68 @@ module _ (words : Words) (st : Stated) (flow : Flow) (tree : Tree) (of : IsTreeO
   pub none_keeps : KeepsNone words st flow tree s inputs → NoneKeeps words st flow.profile flow s inputs
   none_keeps none steps keeps = none steps (by_tree words st flow tree of s (take steps inputs) keeps)
 
--- what is said of the one visit of a run that begins at the entry
-pub lone_text : (words : Words) (st : Stated) (flow : Flow) (tree : Tree) (of : IsTreeOf flow st.loops tree) (source : File) (longest : Longest) (s : State) (inputs : List Input)
-    → IsWellFormed flow → StepCost → RunLaw → IsLongest flow tree longest → IsGreatestCost flow st.loops longest.bound → (steps ticks : ℕ) (by_place : List Passed) (after : State) (text : List ℕ)
-    → IsKeptRun words st flow tree s inputs steps ticks by_place after → NeverArrives st.entry after (drop steps inputs)
-    → IsTallyText source words st flow longest (address_in after.regs) ticks by_place text → IsLoneText words st flow.profile flow s inputs source tree longest text
-lone_text words st flow tree of source longest s inputs well cost law longest_is greatest steps ticks by_place after text is alone said = record {
-  ticks = ticks;
-  keeps = within words st flow tree of longest.bound s inputs law greatest steps ticks by_place after is;
-  alone = alone;
-  left = said.left;
-  left_is = said.left_is;
-  passes = is.passes;
-  passes_are = is.passes_are;
-  table = said.table;
-  table_is =
-      let keeps = states words st flow tree of s (take steps inputs) is.keeps in
-      table_exact source words st flow tree longest s (take steps inputs) is.keeps.walk is.passes said.table well cost longest_is is.keeps.complete is.keeps.follows is.passes_are
-      (greatest.upper keeps.walk keeps.complete keeps.kept) (said.table_is is.passes is.tally_is);
-  warnings = said.warnings;
-  are_warnings = said.are_warnings is.passes is.tally_is;
-  text_is = said.text_is;
-}
+-- what is said of what a run does first
+module _ (words : Words) (st : Stated) (flow : Flow) (tree : Tree) (of : IsTreeOf flow st.loops tree) (source : File) (longest : Longest) (s : State) (inputs : List Input)
+    (well : IsWellFormed flow) (cost : StepCost) (law : RunLaw) (longest_is : IsLongest flow tree longest) (greatest : IsGreatestCost flow st.loops longest.bound) where
+  first_kept : (after : State) (kept : KeptVisit) (text : List ℕ) (k : IsKeptNext words st flow tree 0 s inputs after kept)
+      → IsTallyText source words st flow longest (address_in after.regs) kept.visit.ticks kept.by_place.items text
+      → IsKeptText words st flow.profile flow source tree longest k.now (drop k.before inputs) k.before text
+  first_kept after kept text k said = record {
+    ticks = kept.visit.ticks;
+    keeps = within words st flow tree of longest.bound k.now (drop k.before inputs) law greatest k.steps kept.visit.ticks kept.by_place.items after k.keeps;
+    left = said.left;
+    left_is = said.left_is;
+    passes = k.keeps.passes;
+    passes_are = k.keeps.passes_are;
+    table = said.table;
+    table_is =
+        let front = take k.steps (drop k.before inputs) in
+        let keeps = states words st flow tree of k.now front k.keeps.keeps in
+        table_exact source words st flow tree longest k.now front k.keeps.keeps.walk k.keeps.passes said.table well cost longest_is k.keeps.keeps.complete k.keeps.keeps.follows k.keeps.passes_are
+        (greatest.upper keeps.walk keeps.complete keeps.kept) (said.table_is k.keeps.passes k.keeps.tally_is);
+    warnings = said.warnings;
+    are_warnings = said.are_warnings k.keeps.passes k.keeps.tally_is;
+    text_is = said.text_is;
+  }
+
+  first_strayed : (strayed : StrayedStep) (text : List ℕ) (k : IsStrayedNext words st flow tree 0 s inputs strayed) → IsStrayedStep source st strayed [] text
+      → IsStrayedText words st flow.profile flow source tree longest k.now (drop k.before inputs) k.before text
+  first_strayed strayed text k said = record {
+    steps = k.steps;
+    at = strayed.at;
+    why = strayed.why;
+    after = k.after;
+    line = said.0;
+    none = none_keeps words st flow tree of longest.bound k.now (drop k.before inputs) k.strays.none;
+    strays = k.strays;
+    line_is = said.1;
+    text_is = said.2 ∙ ap (λ n. strayed_text n strayed.at said.0 (why_text st strayed.at strayed.why)) k.step_is;
+  }
+
+  pub arrival_text : (after : State) (next : NextVisit) (kept : Bool) (text : List ℕ) → IsNext words st flow tree 0 s inputs after next
+      → IsNextText source words st flow longest (address_in after.regs) next kept text → IsArrivalText words st flow.profile flow source tree longest s inputs kept text
+  arrival_text after next.Never kept text is said = inr (record { never = is; kept_is = said.0; text_is = said.1 })
+  arrival_text after (next.Kept visit) kept text is said =
+      inl (record {
+        before = is.before;
+        now = is.now;
+        arrives = is.arrives;
+        is_text = subst (λ (b : Bool). IsRunText words st flow.profile flow source tree longest is.now (drop is.before inputs) is.before b text) (sym said.0) (first_kept after visit text is said.1);
+      })
+  arrival_text after (next.Strayed strayed) kept text is said =
+      inl (record {
+        before = is.before;
+        now = is.now;
+        arrives = is.arrives;
+        is_text = subst (λ (b : Bool). IsRunText words st flow.profile flow source tree longest is.now (drop is.before inputs) is.before b text) (sym said.0) (first_strayed strayed text is said.1);
+      })
+
+-- what is said of a kept visit is said of each place
+pub all_places : (words : Words) (st : Stated) (flow : Flow) (tree : Tree) (made : ℕ) (s : State) (rest : List Input) (after : State) (next : NextVisit)
+    → IsNext words st flow tree made s rest after next → HasAllPlaces flow next
+all_places words st flow tree made s rest after next.Never is = tt
+all_places words st flow tree made s rest after (next.Kept visit) is = is.keeps.tally_is.whole
+all_places words st flow tree made s rest after (next.Strayed strayed) is = tt
 
 -- a text of a line and three pieces, of which two were appended to the first
 pub told_in_pieces : (line first second third two three begun text : List ℕ) → begun ≡ line → two ≡ first ++ second → three ≡ two ++ third → text ≡ begun ++ three
@@ -136,8 +182,22 @@ module _ (source : File) (statement machine : List ℕ) (profile : Profile) (wor
     inputs = j.inputs;
     loaded = record { file = file; placed = placed; inputs_are = j.inputs_are };
     is_text =
-        subst (λ (p : Profile). IsRunText loops.graph.words st p flow state j.inputs source tree longest kept text) loops.graph.graph_is.profile_is
-        (subst (λ (w : Words). IsRunText w st flow.profile flow state j.inputs source tree longest kept text) (sym own_words) j.is_text);
+        subst (λ (p : Profile). IsArrivalText loops.graph.words st p flow source tree longest state j.inputs kept text) loops.graph.graph_is.profile_is
+        (subst (λ (w : Words). IsArrivalText w st flow.profile flow source tree longest state j.inputs kept text) (sym own_words) j.is_text);
+  }
+
+  pub each_followed : (longest : Longest) (file : machine_file.Stated) (state : State) (kept : Bool) (text : List ℕ)
+      → ((f : WalkFault) → f ≢ walk_fault.Memory → IsWalkFault flow tree f → ⊥) → IsLongest flow tree longest
+      → IsPlaced source machine profile file state → AreJudgedVisits words st flow tree source longest.bound file state kept text → IsEachReport source statement machine profile kept text
+  unfolding accepted bounded
+  each_followed longest file state kept text allowed is_longest placed j = record {
+    bounded = bounded source statement profile st flow tree loops of longest is_longest allowed;
+    state = state;
+    inputs = j.inputs;
+    loaded = record { file = file; placed = placed; inputs_are = j.inputs_are };
+    is_text =
+        subst (λ (p : Profile). IsEachText loops.graph.words st p flow source tree longest.bound state j.inputs kept text) loops.graph.graph_is.profile_is
+        (subst (λ (w : Words). IsEachText w st flow.profile flow source tree longest.bound state j.inputs kept text) (sym own_words) j.is_text);
   }
 
 -- ## Refusals
@@ -181,3 +241,6 @@ module _ (source : File) (statement machine : List ℕ) (profile : Profile) wher
 
   pub followable : (kept : Bool) (text : List ℕ) → IsFollowReport source statement machine profile kept text → IsFollowable source statement machine profile
   followable kept text r = record { accepted = r.bounded.accepted; runnable = record { file = r.loaded.file; state = r.state; placed = r.loaded.placed } }
+
+  pub each_followable : (kept : Bool) (text : List ℕ) → IsEachReport source statement machine profile kept text → IsFollowable source statement machine profile
+  each_followable kept text r = record { accepted = r.bounded.accepted; runnable = record { file = r.loaded.file; state = r.state; placed = r.loaded.placed } }

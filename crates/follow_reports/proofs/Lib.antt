@@ -4,5 +4,6 @@ mod LineLemmas
 mod VisitedLemmas
 mod RunVisitLemmas
 mod RunTextLemmas
+mod EachLemmas
 pub mod ExactLemmas
 pub mod FollowLemmas

@@ -30,14 +30,17 @@ use Rattle.follow_reports.proofs.FollowLemmas.{none_keeps, within}
 
 -- ## The machine after steps
 
+fit_end : (flow : Flow) (s : State) (ran : Ran) (after : State) (goes_on : Type 0) (why : Option Why) → Ends why s ran after goes_on → IsMachineFor flow s
+    → (goes_on → IsMachineFor flow after) → IsMachineFor flow after
+fit_end flow s ran after goes_on (Some why) e fits go = subst (IsMachineFor flow) (sym e.1) fits
+fit_end flow s ran after goes_on None e fits go = go e
+
 -- a run leaves the machine with its registers and its prices
 pub fit_run : (flow : Flow) (inputs : List Input) (s : State) (ran : Ran) (after : State) → Runs s inputs ran after → IsMachineFor flow s → IsMachineFor flow after
 fit_run flow [] s ran after r fits = subst (IsMachineFor flow) (sym r.1) fits
-fit_run flow (i ∷ inputs) s ran after r fits = by_why (why_stopped r.0.kind) r.3
-  where
-    by_why : (why : Option Why) → Ends why s ran after ((more : Ran) × Runs r.1 inputs more after × (ran ≡ counted s.profile.burst i r.0 more)) → IsMachineFor flow after
-    by_why (Some why) e = subst (IsMachineFor flow) (sym e.1) fits
-    by_why None e = fit_run flow inputs r.1 e.0 after e.1 (fit_after s i r.0 r.1 r.2 flow fits)
+fit_run flow (i ∷ inputs) s ran after r fits =
+    fit_end flow s ran after ((more : Ran) × Runs r.1 inputs more after × (ran ≡ counted s.profile.burst i r.0 more)) (why_stopped r.0.kind) r.3 fits
+    (λ e. fit_run flow inputs r.1 e.0 after e.1 (fit_after s i r.0 r.1 r.2 flow fits))
 
 -- a visit makes some step
 module _ (words : Words) (st : Stated) (flow : Flow) (tree : Tree) (well : IsWellFormed flow) (s : State) (inputs : List Input) where
@@ -48,6 +51,26 @@ module _ (words : Words) (st : Stated) (flow : Flow) (tree : Tree) (well : IsWel
   pub makes_steps : (steps : ℕ) → KeepsTo words st flow tree s (take steps inputs) → 0 < steps
   makes_steps zero k = absurd (none_of k.walk k.complete k.follows)
   makes_steps (suc n) k = omega arith
+
+-- ## Steps that are made
+
+module _ (words : Words) (st : Stated) (flow : Flow) (tree : Tree) (inputs : List Input) (made : ℕ) (s after : State) (kept : KeptVisit)
+    (k : IsKeptNext words st flow tree made s (drop made inputs) after kept) where
+  made_in_all : kept.made ≡ made + k.before + k.steps
+  made_in_all = k.made_is ∙ ap (λ n. n + k.steps) k.step_is
+
+  pub stays_within : made ≤ length inputs → kept.made ≤ length inputs
+  stays_within few =
+      let all = made_in_all in
+      let long : length (drop made inputs) ≡ length inputs - made = length-drop made inputs in
+      let rest : length (drop k.before (drop made inputs)) ≡ length (drop made inputs) - k.before = length-drop k.before (drop made inputs) in
+      omega (arith, few, all, long, rest, k.arrives.few, k.keeps.few)
+
+  pub goes_further : IsWellFormed flow → made < kept.made
+  goes_further well =
+      let all = made_in_all in
+      let some = makes_steps words st flow tree well k.now (drop k.before (drop made inputs)) k.steps k.keeps.keeps in
+      omega (arith, all, some)
 
 -- ## Visits
 
@@ -115,7 +138,7 @@ module _ (words : Words) (st : Stated) (flow : Flow) (tree : Tree) (of : IsTreeO
         → (m : ℕ) (t : State) (rest : List Input) → HasVisits words st flow.profile flow bound (IsHere inputs made s) m t rest visits
         → HasVisits words st flow.profile flow bound (IsHere inputs kept.made after) m t rest (visits ++ kept.visit ∷ [])
     one_more visits after kept k =
-        let here = record { made_same = refl; state_same = refl; rest_same = refl } in
+        let here : IsHere inputs kept.made after kept.made after (drop kept.made inputs) = record { made_same = refl; state_same = refl; rest_same = refl } in
         visits_then (IsHere inputs made s) (IsHere inputs kept.made after) visits (kept.visit ∷ [])
         (at_here (λ m t rest. HasVisits words st flow.profile flow bound (IsHere inputs kept.made after) m t rest (kept.visit ∷ []))
         (and_then (IsHere inputs kept.made after) made s inputs after kept [] k here))

@@ -4,7 +4,8 @@ use arcwcet::{
     AskedResponse, Bursts, Dialect, DrawnHandler, Explained, Extent, FollowedRun, FollowedVisits,
     JustifiedHandler, MemoryOutput, Output, ReportFault, RowForm, SourceFile, TableForm, VisitRate,
     VisitedHandler, asm_report, bound_report, check_report, debug_report, draft_on_report,
-    draft_report, explain_report, fault_only, follow_report, follow_visits_report, graph_report,
+    draft_report, explain_report, fault_only, follow_each_report, follow_report,
+    follow_visits_report, graph_report,
     justify_report, list_report, plain_report, respond_report, run_report, tight_report,
     trace_report, visits_report,
 };
@@ -191,6 +192,11 @@ const FOLLOWED: &[u8] = b"kept: 21 ticks, 4 less than the bound
        1        5       1        9  0000800C     4   SUBS PC,R14,#4
     less     more  ticks of the run, by
        4        0  the way out
+";
+
+// The eight steps are those of one visit.
+const FOLLOWED_EACH: &[u8] = b"visit 1, step 0: kept: 21 ticks, 4 less than the bound
+1 visit: the greatest 21 ticks, the least 21
 ";
 
 // The bounds are 80 and 21 ticks, and FIQ is taken in at most 8. The run returns to the source's first word.

@@ -5,13 +5,13 @@ use Rattle.follow_reports.specs.RunVisits.{HasVisits}
 use Rattle.follow_reports.specs.RunWork.{IsHere}
 use Rattle.follow_reports.proofs.run_visits.later_visits.Given as goal
 
-abbrev pub invariant-loop : goal.invariant-loop
-invariant-loop l = record {
+abbrev pub invariant-loop-visits : goal.invariant-loop-visits
+invariant-loop-visits l = record {
   few : l.made ≤ length l.inputs;
   machine : IsMachineFor l.handler.graph l.machine;
   visits : (bound : ℕ) → IsGreatestCost l.handler.graph l.handler.statement.loops bound
       → HasVisits l.handler.image.now l.handler.statement l.handler.graph.profile l.handler.graph bound (IsHere l.inputs l.made l.machine) l.fn.made l.fn.machine (drop l.fn.made l.inputs) l.visits.items;
 }
 
-abbrev pub decreases-loop : goal.decreases-loop
-decreases-loop l = length l.inputs - l.made
+abbrev pub decreases-loop-visits : goal.decreases-loop-visits
+decreases-loop-visits l = length l.inputs - l.made

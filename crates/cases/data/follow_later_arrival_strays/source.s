@@ -6,7 +6,7 @@ save     STMFD  R13!,{R0-R1,R14}
          ADD    R0,R0,#1
          STR    R0,count
          TST    R0,#1
-         BEQ    leave
+even     BEQ    leave
 work     MUL    R1,R0,R1
 leave    LDMFD  R13!,{R0-R1,PC}^
 count    DCD    0
