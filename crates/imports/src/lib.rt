@@ -4,6 +4,8 @@
 mod elf;
 mod fault;
 mod parts;
+#[cfg(test)]
+mod tests;
 
 pub use elf::import_elf;
 pub use fault::ImportFault;

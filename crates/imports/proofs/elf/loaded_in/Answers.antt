@@ -1,4 +1,4 @@
-use Rattle.std.proofs.Common.{◌-◌, ◌∙◌, ◌++◌, List, [], ◌∷◌, ap, arith, drop, filter, length}
+use Rattle.std.proofs.Common.{◌-◌, ◌∙◌, ◌++◌, [], ◌∷◌, ap, arith, drop, filter, length}
 use Rattle.std.proofs.lemmas.List.{length-drop, take_all}
 use Rattle.imports.specs.Elf.{is_loaded}
 use Rattle.imports.specs.declared.elf.Segment.{Segment}
