@@ -294,36 +294,20 @@ def import_parts(seed, number):
         yield f"parts by chance {at} of seed {seed}", parts
 
 
-def elf_file(segments, header=()):
-    """An ELF file of segments, each of its type, address and bytes, with other values of the header's fields."""
-    fields = dict(type=2, machine=40, version=1, entry=0x8000, table=52, size=32, number=len(segments))
-    fields.update(header)
-    it = fields["type"], fields["machine"], fields["version"], fields["entry"], fields["table"], 0, 0
-    data = b"\x7fELF\1\1\1" + bytes(9) + struct.pack("<2H5I", *it)
-    data += struct.pack("<6H", 52, fields["size"], fields["number"], 40, 0, 0)
-    offset = len(data) + 32 * len(segments)
-    for kind, address, code in segments:
-        # Another physical address, and more bytes in memory.
-        place = offset, address, address ^ 0x100000, len(code), len(code) + 64
-        data += struct.pack("<8I", kind, *place, 5, 4)
-        offset += len(code)
-    return data + b"".join(code for _, _, code in segments)
-
-
 def elf_files(seed, number):
     """ELF files of a few segments, changed and cut, and as many segments as there may be, and more."""
-    two = elf_file([(1, 0x8000, bytes(range(10))), (4, 0x8000, b"note"), (1, 0x1C, b"fiq.")])
+    two = worked.elf_file([(1, 0x8000, bytes(range(10))), (4, 0x8000, b"note"), (1, 0x1C, b"fiq.")])
     yield "two segments", two
     for name, data in [*cuts(two), *changed_bytes(two)]:
         yield f"two segments, {name}", data
     for most in 16, 17, 65535:
-        yield f"{most} segments", elf_file([(1, 0x8000 + 8 * n, b"x") for n in range(most)])
-        yield f"{most} notes", elf_file([(4, 0x8000, b"x")] * most)
+        yield f"{most} segments", worked.elf_file([(1, 0x8000 + 8 * n, b"x") for n in range(most)])
+        yield f"{most} notes", worked.elf_file([(4, 0x8000, b"x")] * most)
     for table in 51, 53, 0xFFFFFFE0, 0xFFFFFFFF:
-        yield f"program headers at {table:X}", elf_file([(1, 0x8000, b"x" * 40)], {"table": table})
-    yield "65,536 words", elf_file([(1, 0, bytes(4 * readers.MOST_WORDS))])
-    yield "65,537 words", elf_file([(1, 0, bytes(4 * readers.MOST_WORDS + 1))])
-    yield "all of it sixteen times", elf_file([(1, 0x8000, b"x")] * 16)[:52] + struct.pack(
+        yield f"program headers at {table:X}", worked.elf_file([(1, 0x8000, b"x" * 40)], {"table": table})
+    yield "65,536 words", worked.elf_file([(1, 0, bytes(4 * readers.MOST_WORDS))])
+    yield "65,537 words", worked.elf_file([(1, 0, bytes(4 * readers.MOST_WORDS + 1))])
+    yield "all of it sixteen times", worked.elf_file([(1, 0x8000, b"x")] * 16)[:52] + struct.pack(
         "<8I", 1, 0, 0x8000, 0, 500, 500, 5, 4
     ) * 16
     chance = random.Random(f"ELF files {seed}")
@@ -333,7 +317,7 @@ def elf_files(seed, number):
             address = chance.choice(EDGES) if chance.random() < 0.3 else 0x8000 + 4 * chance.randrange(200)
             kind = chance.choice((1, 1, 1, 0, 4, 0x70000001))
             segments.append((kind, address, chance.randbytes(chance.randrange(20))))
-        yield f"segments by chance {at} of seed {seed}", elf_file(segments)
+        yield f"segments by chance {at} of seed {seed}", worked.elf_file(segments)
 
 
 def elf_imports(bench):
@@ -341,7 +325,7 @@ def elf_imports(bench):
     for name, data in elf_files(bench.seed, 1000):
         words, files = ["import", "code.elf", "made.image"], {"code.elf": data}
         yield Trial(f"import, ELF: {name}", words, ImportIs(readers.elf_imported(data)), files)
-    data = elf_file([(1, 0x8000, b"code")])
+    data = worked.elf_file([(1, 0x8000, b"code")])
     raw = ImportIs(readers.imported([(0x8000, data)]))
     yield Trial("import: ELF as code", ["import", "code.elf@0x8000", "made.image"], raw, {"code.elf": data})
 
