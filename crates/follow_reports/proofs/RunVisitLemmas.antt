@@ -106,10 +106,11 @@ module _ (words : Words) (st : Stated) (flow : Flow) (tree : Tree) (of : IsTreeO
       let front : drop k.before (drop made inputs) ≡ drop (made + k.before) inputs = drop-drop k.before made inputs in
       let both : drop k.steps (drop k.before (drop made inputs)) ≡ drop (made + k.before + k.steps) inputs = ap (drop k.steps) front ∙ drop-drop k.steps (made + k.before) inputs in
       let many : kept.made ≡ made + k.before + k.steps = k.made_is ∙ ap (λ n. n + k.steps) k.step_is in
-      let rest : drop kept.made inputs ≡ drop k.steps (drop k.before (drop made inputs)) = ap (λ n. drop n inputs) many ∙ sym both in
-      (kept_next made s (drop made inputs) after kept k,
-      subst (λ (n : ℕ). HasVisits words st flow.profile flow bound Then n after (drop k.steps (drop k.before (drop made inputs))) later) k.made_is
-      (subst (λ (is : List Input). HasVisits words st flow.profile flow bound Then kept.made after is later) rest h))
+      let rest : drop kept.made inputs ≡ drop k.steps (drop k.before (drop made inputs)) = ap (λ n. drop n inputs) many ∙ sym both in (
+        kept_next made s (drop made inputs) after kept k,
+        subst (λ (n : ℕ). HasVisits words st flow.profile flow bound Then n after (drop k.steps (drop k.before (drop made inputs))) later) k.made_is
+            (subst (λ (is : List Input). HasVisits words st flow.profile flow bound Then kept.made after is later) rest h),
+      )
 
   -- what holds after the last visit is visits, too
   pub visits_then : (Then Last : ℕ → State → List Input → Type 0) (visits more : List HandlerVisit)

@@ -48,11 +48,7 @@ fn all_kept(
 }
 
 // The answer on the visits of a run.
-fn visits_answer(
-    alloc: Global,
-    bounded: Bounded<'_>,
-    visits: &Later,
-) -> Result<Judged, AllocError>
+fn visits_answer(alloc: Global, bounded: Bounded<'_>, visits: &Later) -> Result<Judged, AllocError>
     requires { IsSource (file_of bounded.source) bounded.read.now }
     ensures { IfOk result
         (λ j. AreVisitsText (file_of bounded.entry.source) bounded.entry.handler.now.statement

@@ -19,9 +19,13 @@ const CHUNK_FILE: u32 = 0xC3CB_C6C5;
 
 // What the header says: the class of 32 bits, the lowest byte first, version 1, an executable, for ARM.
 const CLASS_32: u8 = 1;
+
 const LOWEST_FIRST: u8 = 1;
+
 const VERSION: u8 = 1;
+
 const EXECUTABLE: u16 = 2;
+
 const ARM: u16 = 40;
 
 // What a program header says of a segment that is loaded.

@@ -5,9 +5,8 @@ use arcwcet::{
     JustifiedHandler, MemoryOutput, Output, ReportFault, RowForm, SourceFile, TableForm, VisitRate,
     VisitedHandler, asm_report, bound_report, check_report, debug_report, draft_on_report,
     draft_report, explain_report, fault_only, follow_each_report, follow_report,
-    follow_visits_report, graph_report,
-    justify_report, list_report, plain_report, respond_report, run_report, tight_report,
-    trace_report, visits_report,
+    follow_visits_report, graph_report, justify_report, list_report, plain_report, respond_report,
+    run_report, tight_report, trace_report, visits_report,
 };
 use samples::{countdown, nested_countdown};
 use std::alloc::{AllocError, Global};
