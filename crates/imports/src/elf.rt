@@ -222,17 +222,19 @@ fn elf_parts(alloc: Global, bytes: &[u8]) -> Result<Vec<Part<'_>>, ImportFault>
     parts_in(alloc, bytes, &segments)
 }
 
-/// The image of an ELF file: of its loadable segments, each at its virtual address (`p_vaddr`), with the bytes
-/// that the file has of it, as [`import_parts`] makes it. Memory that a segment has beyond these is not in the
-/// image. The file has 32 bits, the lowest byte first, and is an executable of ARM.
+/// The image of an ELF file: of its loadable segments, each at its virtual address (`p_vaddr`), with the
+/// bytes that the file has of it, as [`import_parts`] makes it. Memory that a segment has beyond these is not
+/// in the image. The file has 32 bits, the lowest byte first, and is an executable for ARM, as the ELF
+/// specification (TIS, version 1.2) has it.
 ///
 /// # Errors
 ///
-/// The first of these: `AcornObject`, the file begins with the word C3CBC6C5; `NotElf`, it does not begin with
-/// 7F 45 4C 46; `HeaderCut`, it has fewer than 52 bytes; `Not32Bit`, `NotLittleEndian`, `NotVersion1`, `NotArm`
-/// and `NotExecutable`, its header says so; `BadEntrySize`, its program headers do not have 32 bytes each;
-/// `TableOutside`, they are not all in the file; `NoSegment`, no loadable segment has bytes; `SegmentOutside`,
-/// one is not all in the file. Else those of [`import_parts`].
+/// The first of these: `AcornObject`, the file begins with the word C3CBC6C5; `NotElf`, it does not begin
+/// with the bytes 7F 45 4C 46; `HeaderCut`, it has fewer than 52 bytes; `Not32Bit`, `NotLittleEndian`,
+/// `NotVersion1`, `NotArm` and `NotExecutable`, its header says so; `BadEntrySize`, its program headers do not
+/// have 32 bytes each; `TableOutside`, they are not all in the file; `NoSegment`, no loadable segment has
+/// bytes; `SegmentOutside`, the first that is not all in the file, with its address. Else those of
+/// [`import_parts`].
 pub fn import_elf(alloc: Global, bytes: &[u8]) -> Result<Image, ImportFault>
     ensures image { IfOk result (λ image. elf_imported bytes.now ≡ Ok image) }
     ensures words { IfOk result (λ image. (parts : List Placed) × (elf_parts bytes.now ≡ Ok parts)

@@ -2,7 +2,6 @@ use Rattle.std.proofs.Common.{List, ℕ, Ok, Err, codes, subst}
 use Rattle.std.specs.Prelude.{string_bytes}
 use Rattle.outputs.specs.Output.{TakesFront}
 use Rattle.command_line.specs.Rows.{asked_of}
-use Rattle.arcwcet.specs.Import.{import_fault_text}
 use Rattle.arcwcet.specs.Refusals.{Says, store_fault_name}
 use Rattle.arcwcet.proofs.RunLemmas.{import_of, import_refused, import_refused_of, import_unprinted, import_unwritten, says_line}
 use Rattle.arcwcet.proofs.commands.run_import.Goals as goal
@@ -11,9 +10,8 @@ pub returns-in-Err-clause-ran : goal.returns-in-Err-clause-ran
 returns-in-Err-clause-ran g c = λ old files read split.
     let asked = asked_of c.args.job.request.now in
     let fault = c.in-Err.fault in
-    import_refused g.S.Store.read_gives g.S.Store.write_gives g.O.Output.taken g.O.Output.failures (Says g.E.Output.taken g.E.Output.failures asked c.args.err.now c.import_status.new.err) asked old c.args.store.now files c.args.out.now read fault
-    (import_refused_of asked files _ _ c.deref.ensures.value split fault c.in-Err.ensures.fault)
-    (says_line g.E.Output.taken g.E.Output.failures c.args.err.now c.import_status.new.err asked (import_fault_text fault) c.import_status.ensures.says) c.import_status.result c.import_status.ensures.status
+    import_refused g.S.Store.read_gives g.S.Store.write_gives g.O.Output.taken g.O.Output.failures (Says g.E.Output.taken g.E.Output.failures asked c.args.err.now c.refused_status.new.err) asked old c.args.store.now files c.args.out.now read fault
+    (import_refused_of asked files _ _ c.deref.ensures.value split fault c.in-Err.ensures.fault) c.refused_status.ensures.says c.refused_status.result c.refused_status.ensures.status
 
 pub returns-in-Err-write-clause-ran : goal.returns-in-Err-write-clause-ran
 returns-in-Err-write-clause-ran g c = λ old files read split.
