@@ -71,11 +71,7 @@ fn first_file(files: &[Vec<u8>]) -> &[u8]
 }
 
 // The image of files, each at its address, or of an ELF file.
-fn image_at(
-    alloc: Global,
-    places: &[Option<u32>],
-    files: &[Vec<u8>],
-) -> Result<Image, ImportFault>
+fn image_at(alloc: Global, places: &[Option<u32>], files: &[Vec<u8>]) -> Result<Image, ImportFault>
     ensures image { IfOk result
         (λ image. image_at places.now (map (λ v. v.items) files.now) ≡ Ok image) }
     ensures fault { IfErr result (λ fault. (fault ≡ ImportFault.Memory)

@@ -24,10 +24,10 @@ reads_more count table left rest found reads after one behind at more is =
     record {
       enough = subst (λ (xs : List ℕ). 32 * after ≤ length xs) (sym at) (let known = length-drop 32 rest in let before = reads.enough in omega (arith, known, before, one));
       so_far =
-        ap (λ (xs : List Segment). xs ++ filter is_loaded (segments_in after behind)) is
-        ∙ ap (λ (xs : List ℕ). (found ++ filter is_loaded (segment_in rest ∷ [])) ++ filter is_loaded (segments_in after xs)) at
-        ∙ append_assoc found (filter is_loaded (segment_in rest ∷ [])) tail
-        ∙ ap (λ (xs : List Segment). found ++ xs) (sym (apart (segment_in rest) (segments_in after (drop 32 rest))))
-        ∙ ap (λ (n : ℕ). found ++ filter is_loaded (segments_in n rest)) (sym one)
-        ∙ reads.so_far;
+          ap (λ (xs : List Segment). xs ++ filter is_loaded (segments_in after behind)) is
+          ∙ ap (λ (xs : List ℕ). (found ++ filter is_loaded (segment_in rest ∷ [])) ++ filter is_loaded (segments_in after xs)) at
+          ∙ append_assoc found (filter is_loaded (segment_in rest ∷ [])) tail
+          ∙ ap (λ (xs : List Segment). found ++ xs) (sym (apart (segment_in rest) (segments_in after (drop 32 rest))))
+          ∙ ap (λ (n : ℕ). found ++ filter is_loaded (segments_in n rest)) (sym one)
+          ∙ reads.so_far;
     }

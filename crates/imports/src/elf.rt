@@ -17,14 +17,22 @@ const ELF_MAGIC: u32 = 0x464C_457F;
 // The first word of a chunk file of Acorn's, which holds an object or a library.
 const CHUNK_FILE: u32 = 0xC3CB_C6C5;
 
-// What the header says: the class of 32 bits, the lowest byte first, version 1, an executable, for ARM.
+// `EI_CLASS`: 32 bits.
 const CLASS_32: u8 = 1;
+
+// `EI_DATA`: the lowest byte first.
 const LOWEST_FIRST: u8 = 1;
+
+// `EI_VERSION` and `e_version`.
 const VERSION: u8 = 1;
+
+// `e_type`: an executable.
 const EXECUTABLE: u16 = 2;
+
+// `e_machine`.
 const ARM: u16 = 40;
 
-// What a program header says of a segment that is loaded.
+// `p_type` of a segment that is loaded.
 const LOAD: u32 = 1;
 
 // The bytes of an ELF file's header.

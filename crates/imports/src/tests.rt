@@ -68,7 +68,16 @@ fn a_file_is_imported(rt: HostRuntime) -> Result<(), AllocError> {
     match import_elf(rt.alloc(), &file) {
         Ok(image) => {
             let words = [0x1C, 0x20, 0x8000, 0x8004, 0x9000].map(|address| image.word_at(address));
-            assert!(rt; words == [Some(0x0003_0201), None, Some(0xE3A0_0003), Some(0xE25E_F004), None]);
+            assert!(rt;
+                words
+                    == [
+                        Some(0x0003_0201),
+                        None,
+                        Some(0xE3A0_0003),
+                        Some(0xE25E_F004),
+                        None
+                    ]
+            );
             assert!(rt; image.words() == 3);
         }
         Err(_) => {
