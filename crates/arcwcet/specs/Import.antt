@@ -1,6 +1,6 @@
 -- What `import` makes of its files.
-use Rattle.std.specs.Prelude.{◌≡◌, ◌++◌, ℕ, Bool, false, List, [], ◌∷◌, codes, drop, Option, Some, None, is_none}
-use Rattle.std.specs.Prelude.{Result, Ok, if◌then◌else◌}
+use Rattle.std.specs.Prelude.{◌≡◌, ◌++◌, ℕ, Bool, false, List, [], ◌∷◌, codes, drop, Option, Some, None}
+use Rattle.std.specs.Prelude.{Result, Ok, if◌then◌else◌, is_none}
 use Rattle.image.specs.Image.{Words}
 use Rattle.image.specs.ImageBytes.{image_bytes, segments_of}
 use Rattle.imports.specs.Elf.{elf_imported}

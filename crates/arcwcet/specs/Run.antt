@@ -213,7 +213,7 @@ module _ {S O : Type 0} (reads : Reading S) (writes : Writing S) (taken : O → 
       (IsRefusedRun reads (names_of asked) old new Says (λ files. (report_from asked [] files).IsFault))
       old new
 
-  -- `import CODE@ADDRESS .. IMAGE` writes that of its files, each at its address, and `import FILE IMAGE` that
+  -- `import CODE@ADDRESS .. IMAGE` writes that of its files, each at its address, and `import ELF IMAGE` that
   -- of an ELF file
   abbrev pub RunsImport : (before after : O) → ℕ → Type 0
   RunsImport = RunsWriting reads writes taken failures Says asked

@@ -1,16 +1,20 @@
 //! `import`: the image of code that another tool has made.
 
-ghost use Rattle.std.specs.Prelude.{◌≡◌, ◌⊎◌, Err, IfErr, IfOk, Ok, drop, map, string_bytes};
+ghost use Rattle.std.specs.Prelude.{◌≡◌, ◌⊎◌, Err, IfErr, IfOk, Ok, Some, drop, map, string_bytes};
+ghost use Rattle.command_line.specs.Rows.{asked_of};
 ghost use Rattle.handlers.specs.FaultText.{TakesOrFails, refusal_line};
 ghost use Rattle.imports.specs.Imported.{part_of};
 ghost use Rattle.source_reports.specs.Assembly.{size_text};
 ghost use Rattle.arcwcet.specs.Import.{IsImported, first_file, first_place, image_at, import_fault_name};
 ghost use Rattle.arcwcet.specs.Import.{import_fault_place, import_fault_text, import_status, is_elf, placed};
+ghost use Rattle.arcwcet.specs.Refusals.{Says, TakesSome};
 
+use crate::status::shows_why;
+use command_line::Request;
 use handlers::{FaultPlace, print_refusal_line};
 use image::{Image, write_image};
 use imports::{ImportFault, Part, import_elf, import_parts};
-use outputs::Output;
+use outputs::{Output, write_whole};
 use source_reports::Written;
 use std::alloc::{AllocError, Global};
 
@@ -147,8 +151,8 @@ fn fault_place(fault: ImportFault) -> FaultPlace
     }
 }
 
-/// Prints why there is no image, and answers the exit status.
-pub(crate) fn import_status<E: Output>(fault: ImportFault, err: &mut E) -> u8
+// Prints why there is no image, and answers the exit status.
+fn import_status<E: Output>(fault: ImportFault, err: &mut E) -> u8
     ensures status { result ≡ import_status fault }
     ensures says { TakesOrFails E.taken E.failures err.old err.new (refusal_line (import_fault_text fault)) }
 {
@@ -157,4 +161,40 @@ pub(crate) fn import_status<E: Output>(fault: ImportFault, err: &mut E) -> u8
         ImportFault::Memory => 3,
         _ => 1,
     }
+}
+
+// What to do with a file that is not taken, where that is not to say an address otherwise.
+fn import_advice(fault: ImportFault) -> &'static [u8] {
+    match fault {
+        ImportFault::NotElf => {
+            b"no ELF file; of other code say the address: CODE@ADDRESS, or CODE --at ADDRESS\n"
+        }
+        ImportFault::AcornObject => b"an object of Acorn's, or a library: link it first\n",
+        ImportFault::NotExecutable => b"no executable: link it first\n",
+        _ => b"",
+    }
+}
+
+fn print_advice<E: Output>(fault: ImportFault, err: &mut E)
+    ensures { TakesSome (E.taken err.old) (E.taken err.new) }
+{
+    let _ = write_whole(err, import_advice(fault));
+}
+
+/// Prints why there is no image, and what to do where reasons are shown, and answers the exit status.
+pub(crate) fn refused_status<E: Output>(
+    fault: ImportFault,
+    request: &Request<'_>,
+    err: &mut E,
+) -> u8
+    ensures status { result ≡ import_status fault }
+    ensures says { Says E.taken E.failures (asked_of request.now) err.old err.new
+        (Some (import_fault_text fault)) }
+{
+    if !shows_why(request) {
+        return import_status(fault, err);
+    }
+    let status = import_status(fault, err);
+    print_advice(fault, err);
+    status
 }

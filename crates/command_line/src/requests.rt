@@ -527,8 +527,8 @@ fn version<'a>(alloc: Global) -> Request<'a>
 /// # Errors
 ///
 /// Where the words ask for nothing: `Usage` with the command-line crate's own refusal, or its help;
-/// `SourceReplaced` where `asm` would write the image over its source; `ImportParts` where one of several files
-/// of `import` has no address, or one file none where its name has an `@`, or `--at` has several or is no
+/// `SourceReplaced` where `asm` would write the image over its source; `ImportParts` where one of several
+/// files of `import` has no address, or one file none and its name an `@`, or `--at` has several or is no
 /// number, or it would write over one; `VisitsOrPeriod` where `visits` has neither a number of visits nor a
 /// period, or both, or FIQ's wait beside a number; `FiqOptions` where `respond` has FIQ's statement without a
 /// period or beside bursts, or else an option of FIQ's; `OptionBesideCertificate` where `explain` has a

@@ -1,8 +1,8 @@
 -- The parts of an ELF file: the bytes of its loadable segments, each from its virtual address on. The fields
 -- are those of the Executable and Linking Format (ELF) specification of the Tool Interface Standard (TIS),
--- version 1.2, May 1995, book I: the ELF header (figure 1-3, 52 bytes) and the program headers (figure 2-1, 32
--- bytes each). Its machine 40, ARM, is of the System V ABI; the word at the head of a chunk file is of Acorn's
--- ARM Object Format, AOF.
+-- version 1.2, May 1995, book I: the ELF header (figure 1-3, 52 bytes) and the program headers (figure 2-1,
+-- 32 bytes each). Its machine 40, ARM, is of the System V ABI; the word at the head of a chunk file is of
+-- Acorn's ARM Object Format, AOF.
 use Rattle.std.specs.Prelude.{ℕ, ◌+◌, ◌*◌, ◌==◌, Bool, ◌&&◌, not, nat_lt, nat_le, if◌then◌else◌, List, []}
 use Rattle.std.specs.Prelude.{◌∷◌, drop, filter, find, length, map, take, Option, Some, None, option_map}
 use Rattle.std.specs.Prelude.{Result, Ok, Err, zero, suc}

@@ -1,5 +1,5 @@
-ghost use Rattle.std.specs.Prelude.{◌≡◌, ◌⊎◌, ◌+◌, ◌*◌, ◌≤◌, ◌++◌, List, [], ◌∷◌, Ok, Err, None};
-ghost use Rattle.std.specs.Prelude.{IfErr, IfOk, OnErr, OnOk, Some, filter, length, map, true, false};
+ghost use Rattle.std.specs.Prelude.{◌≡◌, ◌⊎◌, ◌+◌, ◌*◌, ◌≤◌, ◌++◌, List, [], ◌∷◌, Ok, Err, None, Some};
+ghost use Rattle.std.specs.Prelude.{IfErr, IfOk, OnErr, OnOk, filter, length, map, true, false};
 ghost use Rattle.imports.specs.Elf.{elf_imported, elf_parts, half_at, header_fault, is_loaded, is_outside};
 ghost use Rattle.imports.specs.Elf.{part_in, segment_in, segments_fault, segments_in, table_fault, table_in};
 ghost use Rattle.imports.specs.Elf.{table_length, word_at};
@@ -17,18 +17,22 @@ const ELF_MAGIC: u32 = 0x464C_457F;
 // The first word of a chunk file of Acorn's, which holds an object or a library.
 const CHUNK_FILE: u32 = 0xC3CB_C6C5;
 
-// What the header says: the class of 32 bits, the lowest byte first, version 1, an executable, for ARM.
+// `EI_CLASS`: 32 bits.
 const CLASS_32: u8 = 1;
 
+// `EI_DATA`: the lowest byte first.
 const LOWEST_FIRST: u8 = 1;
 
+// `EI_VERSION` and `e_version`.
 const VERSION: u8 = 1;
 
+// `e_type`: an executable.
 const EXECUTABLE: u16 = 2;
 
+// `e_machine`.
 const ARM: u16 = 40;
 
-// What a program header says of a segment that is loaded.
+// `p_type` of a segment that is loaded.
 const LOAD: u32 = 1;
 
 // The bytes of an ELF file's header.
@@ -216,8 +220,7 @@ fn parts_in<'a>(
 // The parts of an ELF file.
 fn elf_parts(alloc: Global, bytes: &[u8]) -> Result<Vec<Part<'_>>, ImportFault>
     ensures parts { IfOk result (λ parts. elf_parts bytes.now ≡ Ok (map part_of parts.items)) }
-    ensures fault { IfErr result
-        (λ fault. (fault ≡ ImportFault.Memory) ⊎ (elf_parts bytes.now ≡ Err fault)) }
+    ensures fault { IfErr result (λ fault. (fault ≡ ImportFault.Memory) ⊎ (elf_parts bytes.now ≡ Err fault)) }
 {
     if let Some(fault) = header_fault(bytes) {
         return Err(fault);
@@ -229,15 +232,17 @@ fn elf_parts(alloc: Global, bytes: &[u8]) -> Result<Vec<Part<'_>>, ImportFault>
 
 /// The image of an ELF file: of its loadable segments, each at its virtual address (`p_vaddr`), with the
 /// bytes that the file has of it, as [`import_parts`] makes it. Memory that a segment has beyond these is not
-/// in the image. The file has 32 bits, the lowest byte first, and is an executable of ARM.
+/// in the image. The file has 32 bits, the lowest byte first, and is an executable for ARM, as the ELF
+/// specification (TIS, version 1.2) has it.
 ///
 /// # Errors
 ///
 /// The first of these: `AcornObject`, the file begins with the word C3CBC6C5; `NotElf`, it does not begin
-/// with 7F 45 4C 46; `HeaderCut`, it has fewer than 52 bytes; `Not32Bit`, `NotLittleEndian`, `NotVersion1`,
-/// `NotArm` and `NotExecutable`, its header says so; `BadEntrySize`, its program headers do not have 32 bytes
-/// each; `TableOutside`, they are not all in the file; `NoSegment`, no loadable segment has bytes;
-/// `SegmentOutside`, one is not all in the file. Else those of [`import_parts`].
+/// with the bytes 7F 45 4C 46; `HeaderCut`, it has fewer than 52 bytes; `Not32Bit`, `NotLittleEndian`,
+/// `NotVersion1`, `NotArm` and `NotExecutable`, its header says so; `BadEntrySize`, its program headers do not
+/// have 32 bytes each; `TableOutside`, they are not all in the file; `NoSegment`, no loadable segment has
+/// bytes; `SegmentOutside`, the first that is not all in the file, with its address. Else those of
+/// [`import_parts`].
 pub fn import_elf(alloc: Global, bytes: &[u8]) -> Result<Image, ImportFault>
     ensures image { IfOk result (λ image. elf_imported bytes.now ≡ Ok image) }
     ensures words { IfOk result (λ image. (parts : List Placed) × (elf_parts bytes.now ≡ Ok parts)

@@ -29,8 +29,8 @@ pub enum ImportFault {
     /// The file does not begin as an ELF file, with the bytes 7F 45 4C 46.
     #[error("NotElf")]
     NotElf,
-    /// The file begins as a chunk file of Acorn's, with the word C3CBC6C5: an object that is not linked (AOF),
-    /// or a library.
+    /// The file begins as a chunk file of Acorn's, with the word C3CBC6C5: an object that is not linked
+    /// (AOF), or a library.
     #[error("AcornObject")]
     AcornObject,
     /// The file ends in its ELF header, of 52 bytes.
