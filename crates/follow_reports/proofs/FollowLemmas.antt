@@ -1,5 +1,5 @@
 -- A report on a followed run, from what is found of a source, a statement and a machine file.
-use Rattle.std.proofs.Common.{◌≡◌, ◌≢◌, ◌∙◌, ◌⊎◌, ◌++◌, ◌∷◌, [], ℕ, ◌+◌, ◌≤◌, Bool, List, append_assoc, drop, length, take, Result, Ok, Err, inl, inr, sym, ap, subst}
+use Rattle.std.proofs.Common.{◌≡◌, ◌≢◌, ◌∙◌, ◌⊎◌, ◌++◌, ◌∷◌, [], ℕ, ◌+◌, ◌≤◌, Bool, List, append_assoc, arith, drop, length, take, Result, Ok, Err, inl, inr, sym, ap, subst}
 use Rattle.std.specs.Prelude.{IfErr}
 use Rattle.std.proofs.lemmas.List.{length-append}
 use Rattle.bus_ticks.specs.declared.profile.Profile.{Profile}
@@ -106,17 +106,19 @@ module _ (words : Words) (st : Stated) (flow : Flow) (tree : Tree) (of : IsTreeO
 
   first_strayed : (strayed : StrayedStep) (text : List ℕ) (k : IsStrayedNext words st flow tree 0 s inputs strayed) → IsStrayedStep source st strayed [] text
       → IsStrayedText words st flow.profile flow source tree longest k.now (drop k.before inputs) k.before text
-  first_strayed strayed text k said = record {
-    steps = k.steps;
-    at = strayed.at;
-    why = strayed.why;
-    after = k.after;
-    line = said.0;
-    none = none_keeps words st flow tree of longest.bound k.now (drop k.before inputs) k.strays.none;
-    strays = k.strays;
-    line_is = said.1;
-    text_is = said.2 ∙ ap (λ n. strayed_text n strayed.at said.0 (why_text st strayed.at strayed.why)) k.step_is;
-  }
+  first_strayed strayed text k said =
+      let step : strayed.step ≡ k.before + k.steps = omega (arith, k.step_is) in
+      record {
+        steps = k.steps;
+        at = strayed.at;
+        why = strayed.why;
+        after = k.after;
+        line = said.0;
+        none = none_keeps words st flow tree of longest.bound k.now (drop k.before inputs) k.strays.none;
+        strays = k.strays;
+        line_is = said.1;
+        text_is = said.2 ∙ ap (λ n. strayed_text n strayed.at said.0 (why_text st strayed.at strayed.why)) step;
+      }
 
   pub arrival_text : (after : State) (next : NextVisit) (kept : Bool) (text : List ℕ) → IsNext words st flow tree 0 s inputs after next
       → IsNextText source words st flow longest (address_in after.regs) next kept text → IsArrivalText words st flow.profile flow source tree longest s inputs kept text
