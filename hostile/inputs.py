@@ -253,10 +253,10 @@ def images(bench):
 
 
 class ImportIs:
-    """What `import` answers to parts, by their reader: the image's size and its spelling, or the refusal."""
+    """What `import` answers, by what a reader read: the image's size and its spelling, or the refusal."""
 
-    def __init__(self, parts):
-        self.read = readers.imported(parts)
+    def __init__(self, read):
+        self.read = read
 
     def __call__(self, outcome, folder):
         if isinstance(self.read, tuple):
@@ -271,7 +271,7 @@ class ImportIs:
 
 
 # What stands behind a file's name and is no address.
-UNPLACED = ("", "@", "@0x", "@x", "@0X10", "@&8000", "@ 4", "@4 ", "@+4", "@-4", "@4@8", "@@4", "@0x4.0")
+UNPLACED = ("@", "@0x", "@x", "@0X10", "@&8000", "@ 4", "@4 ", "@+4", "@-4", "@4@8", "@@4", "@0x4.0")
 UNPLACED += ("@1_0", "@4294967296", "@0x100000000", "@" + "9" * 1000, "@\u0664")
 
 
@@ -294,11 +294,47 @@ def import_parts(seed, number):
         yield f"parts by chance {at} of seed {seed}", parts
 
 
+def elf_files(seed, number):
+    """ELF files of a few segments, changed and cut, and as many segments as there may be, and more."""
+    two = worked.elf_file([(1, 0x8000, bytes(range(10))), (4, 0x8000, b"note"), (1, 0x1C, b"fiq.")])
+    yield "two segments", two
+    for name, data in [*cuts(two), *changed_bytes(two)]:
+        yield f"two segments, {name}", data
+    for most in 16, 17, 65535:
+        yield f"{most} segments", worked.elf_file([(1, 0x8000 + 8 * n, b"x") for n in range(most)])
+        yield f"{most} notes", worked.elf_file([(4, 0x8000, b"x")] * most)
+    for table in 51, 53, 0xFFFFFFE0, 0xFFFFFFFF:
+        yield f"program headers at {table:X}", worked.elf_file([(1, 0x8000, b"x" * 40)], {"table": table})
+    yield "65,536 words", worked.elf_file([(1, 0, bytes(4 * readers.MOST_WORDS))])
+    yield "65,537 words", worked.elf_file([(1, 0, bytes(4 * readers.MOST_WORDS + 1))])
+    yield "all of it sixteen times", worked.elf_file([(1, 0x8000, b"x")] * 16)[:52] + struct.pack(
+        "<8I", 1, 0, 0x8000, 0, 500, 500, 5, 4
+    ) * 16
+    chance = random.Random(f"ELF files {seed}")
+    for at in range(number):
+        segments = []
+        for _ in range(chance.choice((1, 2, 3, 5, 16))):
+            address = chance.choice(EDGES) if chance.random() < 0.3 else 0x8000 + 4 * chance.randrange(200)
+            kind = chance.choice((1, 1, 1, 0, 4, 0x70000001))
+            segments.append((kind, address, chance.randbytes(chance.randrange(20))))
+        yield f"segments by chance {at} of seed {seed}", worked.elf_file(segments)
+
+
+def elf_imports(bench):
+    yield Trial("import: no ELF file", ["import", "code.bin", "made.image"], refused("NotElf"), {"code.bin": b"x"})
+    for name, data in elf_files(bench.seed, 1000):
+        words, files = ["import", "code.elf", "made.image"], {"code.elf": data}
+        yield Trial(f"import, ELF: {name}", words, ImportIs(readers.elf_imported(data)), files)
+    data = worked.elf_file([(1, 0x8000, b"code")])
+    raw = ImportIs(readers.imported([(0x8000, data)]))
+    yield Trial("import: ELF as code", ["import", "code.elf@0x8000", "made.image"], raw, {"code.elf": data})
+
+
 def imports(bench):
     for name, parts in import_parts(bench.seed, 2000):
         files = {f"{n}.bin": data for n, (_, data) in enumerate(parts)}
         words = [f"{n}.bin@{(hex if n % 2 else str)(address)}" for n, (address, _) in enumerate(parts)]
-        yield Trial(f"import: {name}", ["import", *words, "made.image"], ImportIs(parts), files)
+        yield Trial(f"import: {name}", ["import", *words, "made.image"], ImportIs(readers.imported(parts)), files)
     for behind in UNPLACED:
         for words in ([f"code.bin{behind}"], [f"code.bin{behind}", "code.bin@4"]):
             words = ["import", *words, "made.image"]
@@ -804,6 +840,7 @@ def trials(bench):
     return [
         *images(bench),
         *imports(bench),
+        *elf_imports(bench),
         *statements(bench),
         *statement_limits(bench),
         *begun_statements(bench),

@@ -35,7 +35,7 @@ MET_BY = {
 }
 STATUSES = {"Memory": 3, "Device": 4}
 # What is said of files of `import` without an address, or with an image in the place of one.
-OVER_ITS_CODE = b"error: import needs CODE@ADDRESS .., or one CODE --at ADDRESS, and an IMAGE beside\n"
+OVER_ITS_CODE = b"error: import needs CODE@ADDRESS .., CODE --at ADDRESS, or an ELF file, and an IMAGE\n"
 
 
 def complete(names, what):

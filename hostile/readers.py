@@ -128,6 +128,51 @@ def imported(parts):
     return words
 
 
+# A file's header and a program header of ELF, by their specification.
+ELF_HEADER, PROGRAM_HEADER = "<4s3B9x2H5I6H", "<8I"
+
+
+def header_fault(data):
+    """What an ELF file's header, or the beginning of another file, is refused for."""
+    if data[:4] == bytes.fromhex("C5C6CBC3"):
+        return "AcornObject"
+    if data[:4] != b"\x7fELF":
+        return "NotElf"
+    if len(data) < struct.calcsize(ELF_HEADER):
+        return "HeaderCut"
+    fields = struct.unpack_from(ELF_HEADER, data)
+    _, bits, order, ident, kind, machine, version, _, table, _, _, _, size, number = fields[:14]
+    faults = {
+        "Not32Bit": bits != 1,
+        "NotLittleEndian": order != 1,
+        "NotVersion1": (ident, version) != (1, 1),
+        "NotArm": machine != 40,
+        "NotExecutable": kind != 2,
+        "BadEntrySize": size != struct.calcsize(PROGRAM_HEADER),
+        "TableOutside": table + size * number > len(data),
+    }
+    return next((name for name, it in faults.items() if it), None)
+
+
+def elf_imported(data):
+    """The words of the image of an ELF file, or the fault with its address."""
+    fault = header_fault(data)
+    if fault:
+        return fault, ""
+    table, number = struct.unpack_from("<I", data, 28)[0], struct.unpack_from("<H", data, 44)[0]
+    parts = []
+    for at in range(table, table + 32 * number, 32):
+        kind, offset, address, _, size = struct.unpack_from(PROGRAM_HEADER, data, at)[:5]
+        if kind == 1 and size:
+            parts.append((address, offset, size))
+    if not parts:
+        return "NoSegment", ""
+    for address, offset, size in parts:
+        if offset + size > len(data):
+            return "SegmentOutside", f" at {address:X}"
+    return imported([(address, data[offset : offset + size]) for address, offset, size in parts])
+
+
 def labels(source):
     """The names of a source's labels, where its lines are right."""
     return set(re.findall(r"^([A-Za-z_]\w*)", source.decode(), re.M))

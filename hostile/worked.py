@@ -1,6 +1,7 @@
 """The commands on which the program is tried, with the files that they name."""
 
 import dataclasses
+import struct
 
 from manual import complete
 from running import TOP
@@ -174,6 +175,22 @@ def command(bench, line, files, stdin=b""):
     return answered(bench, line.split(), files, stdin)
 
 
+def elf_file(segments, header=()):
+    """An ELF file of segments, each of its type, address and bytes, with other values of the header's fields."""
+    fields = dict(type=2, machine=40, version=1, entry=0x8000, table=52, size=32, number=len(segments))
+    fields.update(header)
+    it = fields["type"], fields["machine"], fields["version"], fields["entry"], fields["table"], 0, 0
+    data = b"\x7fELF\1\1\1" + bytes(9) + struct.pack("<2H5I", *it)
+    data += struct.pack("<6H", 52, fields["size"], fields["number"], 40, 0, 0)
+    offset = len(data) + 32 * len(segments)
+    for kind, address, code in segments:
+        # Another physical address, and more bytes in memory.
+        place = offset, address, address ^ 0x100000, len(code), len(code) + 64
+        data += struct.pack("<8I", kind, *place, 5, 4)
+        offset += len(code)
+    return data + b"".join(code for _, _, code in segments)
+
+
 def commands(bench):
     """Each command over a source as text and as an image, with and without a cycle profile."""
     image = bench.ask(["asm", "handler.s", "made.image"], {"handler.s": SOURCE})[1]["made.image"]
@@ -199,6 +216,8 @@ def commands(bench):
     code = {"code.bin": CODE, "fiq.bin": FIQ_CODE}
     found.append(command(bench, "import code.bin@0x8000 fiq.bin@0x1C made.image", code))
     found.append(command(bench, "import --at 0x8000 code.bin made.image", {"code.bin": CODE}))
+    elf = elf_file([(1, 0x8000, CODE), (1, 0x1C, FIQ_CODE)])
+    found.append(command(bench, "import code.elf made.image", {"code.elf": elf}))
     complete((it.words[0] for it in found), "hostile/worked.py, commands")
     return found
 

@@ -21,8 +21,7 @@ use Rattle.arcwcet.specs.Files.{FailsToRead, Inputs, ReadsAll, Reading, Texts, W
 use Rattle.arcwcet.specs.Refusals.{Says, SaysRefused, Saying, TakesSome, refusal_of, shows_why, store_fault_name}
 use Rattle.arcwcet.specs.Facts.{AreFacts, HasNoFacts}
 use Rattle.arcwcet.specs.Reports.{Plain, Report, answered, by_facts, judged, priced, report_by, report_of, unpriced}
-use Rattle.arcwcet.specs.Import.{IsImported, import_fault_text, import_status, parts_of, placed}
-use Rattle.imports.specs.Imported.{imported}
+use Rattle.arcwcet.specs.Import.{IsImported, image_at, image_of, import_fault_text, import_status}
 use Rattle.imports.specs.declared.fault.ImportFault.{ImportFault}
 use Rattle.imports.specs.declared.fault.ImportFault.TheVariants as import_fault
 use Rattle.arcwcet.specs.Run.{HasAnswered, HasPrinted, HasWritten, Imaging, IsRefusedImport, IsRefusedRun, PrintsReport, Runs, RunsAsm, RunsBy, RunsImport, RunsOf, RunsWriting, answer_status, report_from, report_status, store_status}
@@ -335,22 +334,34 @@ import_exit (import_fault.Misaligned a) = by_other (λ e. cc e) refl
 import_exit (import_fault.OutOfRange a) = by_other (λ e. cc e) refl
 import_exit (import_fault.Overlap a) = by_other (λ e. cc e) refl
 import_exit (import_fault.TooLong a) = by_other (λ e. cc e) refl
+import_exit import_fault.NotElf = by_other (λ e. cc e) refl
+import_exit import_fault.AcornObject = by_other (λ e. cc e) refl
+import_exit import_fault.HeaderCut = by_other (λ e. cc e) refl
+import_exit import_fault.Not32Bit = by_other (λ e. cc e) refl
+import_exit import_fault.NotLittleEndian = by_other (λ e. cc e) refl
+import_exit import_fault.NotVersion1 = by_other (λ e. cc e) refl
+import_exit import_fault.NotArm = by_other (λ e. cc e) refl
+import_exit import_fault.NotExecutable = by_other (λ e. cc e) refl
+import_exit import_fault.BadEntrySize = by_other (λ e. cc e) refl
+import_exit import_fault.TableOutside = by_other (λ e. cc e) refl
+import_exit import_fault.NoSegment = by_other (λ e. cc e) refl
+import_exit (import_fault.SegmentOutside a) = by_other (λ e. cc e) refl
 
 -- of the files but for a cycle profile's
 module _ (asked : Asked) (files others : Texts) (places : List (Option ℕ)) (same : places ≡ asked.places) (split : others ≡ others_in asked.profile files) where
-  pub import_of : (bytes report : List ℕ) → IsImported (placed places others) bytes report → IsImported (parts_of asked files) bytes report
+  pub import_of : (bytes report : List ℕ) → IsImported (image_at places others) bytes report → IsImported (image_of asked files) bytes report
   import_of bytes report is =
-      subst (λ (o : Texts). IsImported (placed asked.places o) bytes report) split
-      (subst (λ (p : List (Option ℕ)). IsImported (placed p others) bytes report) same is)
+      subst (λ (o : Texts). IsImported (image_at asked.places o) bytes report) split
+      (subst (λ (p : List (Option ℕ)). IsImported (image_at p others) bytes report) same is)
 
-  pub import_refused_of : (fault : ImportFault) → (fault ≡ import_fault.Memory) ⊎ (imported (placed places others) ≡ Err fault) → (fault ≡ import_fault.Memory) ⊎ (imported (parts_of asked files) ≡ Err fault)
+  pub import_refused_of : (fault : ImportFault) → (fault ≡ import_fault.Memory) ⊎ (image_at places others ≡ Err fault) → (fault ≡ import_fault.Memory) ⊎ (image_of asked files ≡ Err fault)
   import_refused_of fault holds =
-      subst (λ (o : Texts). (fault ≡ import_fault.Memory) ⊎ (imported (placed asked.places o) ≡ Err fault)) split
-      (subst (λ (p : List (Option ℕ)). (fault ≡ import_fault.Memory) ⊎ (imported (placed p others) ≡ Err fault)) same holds)
+      subst (λ (o : Texts). (fault ≡ import_fault.Memory) ⊎ (image_at asked.places o ≡ Err fault)) split
+      (subst (λ (p : List (Option ℕ)). (fault ≡ import_fault.Memory) ⊎ (image_at p others ≡ Err fault)) same holds)
 
 module _ {S O : Type 0} (reads : Reading S) (writes : Writing S) (taken : O → Option (List ℕ)) (failures : O → ℕ) (Said : Saying) (asked : Asked) (old new : S) where
   abbrev pub IsImportImage : Imaging
-  IsImportImage files = IsImported (parts_of asked files)
+  IsImportImage files = IsImported (image_of asked files)
 
   abbrev IsImportDenied : Type 0
   IsImportDenied = IsRefusedImport reads asked old new Said
@@ -373,7 +384,7 @@ module _ {S O : Type 0} (reads : Reading S) (writes : Writing S) (taken : O → 
       import_quiet out status (unread reads taken failures Said Nothing NoFault (names_of asked) old new out out fault fails refl said status is)
 
   -- what they hold is refused
-  pub import_refused : (files : Texts) (out : O) → ReadsAll reads old (names_of asked) files new → (fault : ImportFault) → (fault ≡ import_fault.Memory) ⊎ (imported (parts_of asked files) ≡ Err fault)
+  pub import_refused : (files : Texts) (out : O) → ReadsAll reads old (names_of asked) files new → (fault : ImportFault) → (fault ≡ import_fault.Memory) ⊎ (image_of asked files ≡ Err fault)
       → Said (Some (import_fault_text fault)) → (status : ℕ) → status ≡ import_status fault → RunsImport reads writes taken failures Said asked old new out out status
   import_refused files out read fault holds said status is = elim (import_exit fault) [
     | by_memory m ↦
@@ -387,7 +398,7 @@ module _ {S O : Type 0} (reads : Reading S) (writes : Writing S) (taken : O → 
         }
     | by_other memory one ↦
         let here : status ≡ 1 = is ∙ one in
-        let refused : imported (parts_of asked files) ≡ Err fault = elim holds [ inl m ↦ absurd (memory m) | inr refused ↦ refused ] in
+        let refused : image_of asked files ≡ Err fault = elim holds [ inl m ↦ absurd (memory m) | inr refused ↦ refused ] in
         record {
           done = λ e. absurd (omega (arith, e, here));
           denied = λ e. (inr (record { files = files; read = read; fault = fault; not_memory = memory; refused = refused; said = said }), refl);

@@ -7,8 +7,7 @@ use Rattle.handlers.specs.FaultText.{fault_text}
 use Rattle.source_reports.specs.Assembly.{IsWritten}
 use Rattle.arcwcet.specs.Files.{FailsToRead, ReadsAll, Reading, StopsReading, Texts, Writing}
 use Rattle.arcwcet.specs.Files.{inputs_of, names_of}
-use Rattle.arcwcet.specs.Import.{IsImported, import_fault_text, parts_of}
-use Rattle.imports.specs.Imported.{imported}
+use Rattle.arcwcet.specs.Import.{IsImported, image_of, import_fault_text}
 use Rattle.imports.specs.declared.fault.ImportFault.{ImportFault}
 use Rattle.imports.specs.declared.fault.ImportFault.TheVariants as import_fault
 use Rattle.arcwcet.specs.Refusals.{Saying, refusal_of, store_fault_name}
@@ -196,7 +195,7 @@ pub record HasRefusedParts {S : Type 0} (reads : Reading S) (asked : Asked) (old
   pub read : ReadsAll reads old (names_of asked) files new
   pub fault : ImportFault
   pub not_memory : fault ≢ import_fault.Memory
-  pub refused : imported (parts_of asked files) ≡ Err fault
+  pub refused : image_of asked files ≡ Err fault
   pub said : Says (Some (import_fault_text fault))
 
 -- a file is too long, or what they hold is refused
@@ -214,10 +213,11 @@ module _ {S O : Type 0} (reads : Reading S) (writes : Writing S) (taken : O → 
       (IsRefusedRun reads (names_of asked) old new Says (λ files. (report_from asked [] files).IsFault))
       old new
 
-  -- `import CODE@ADDRESS .. IMAGE` writes that of its files, each at its address
+  -- `import CODE@ADDRESS .. IMAGE` writes that of its files, each at its address, and `import ELF IMAGE` that
+  -- of an ELF file
   abbrev pub RunsImport : (before after : O) → ℕ → Type 0
   RunsImport = RunsWriting reads writes taken failures Says asked
-      (λ files. IsImported (parts_of asked files)) (IsRefusedImport reads asked old new Says) old new
+      (λ files. IsImported (image_of asked files)) (IsRefusedImport reads asked old new Says) old new
 
 -- ## `debug SOURCE MACHINE`
 

@@ -13,7 +13,7 @@ ghost use Rattle.arcwcet.specs.Run.{HasAnswered, RunsAsked, RunsAsm, RunsImport}
 use crate::announced::AnnouncedStore;
 use crate::diagnose::{alone_status, answered_status};
 use crate::files::{Store, dialect_of, read_files, read_limited};
-use crate::import::{image_imported, import_status};
+use crate::import::{image_imported, refused_status};
 use crate::input::Input;
 use crate::reports::{Job, print};
 use crate::status::{line_status, report_status, store_status, unread_status};
@@ -94,7 +94,7 @@ fn run_import<S: Store, O: Output, E: Output>(
 {
     let made = match image_imported(alloc, &job.request.places, job.files) {
         Ok(made) => made,
-        Err(fault) => return import_status(fault, err),
+        Err(fault) => return refused_status(fault, job.request, err),
     };
     if let Err(fault) = store.write(job.request.word, &made.bytes) {
         return store_status(fault, err);

@@ -161,11 +161,27 @@ fn files_of<'b>(job: Job<'b, '_>) -> RefusedFiles<'b> {
     }
 }
 
-// Prints what shows why a job is refused. Nothing is printed where memory is wanting, and failures of the
-// output change nothing.
+// Whether a refused source is an ELF file, of which no line is worth showing.
+fn is_elf_source(job: Job<'_, '_>, fault: ReportFault) -> bool {
+    let bytes = job.inputs.source.bytes;
+    match fault {
+        ReportFault::Source(_) | ReportFault::Dialect(_) => bytes.starts_with(b"\x7FELF"),
+        _ => false,
+    }
+}
+
+// Prints what shows why a job is refused, or what to do with an ELF file. Nothing is printed where memory is
+// wanting, and failures of the output change nothing.
 fn print_reasons<E: Output>(alloc: Global, job: Job<'_, '_>, refusal: &Refusal<'_>, err: &mut E)
     ensures { TakesSome (E.taken err.old) (E.taken err.new) }
 {
+    if is_elf_source(job, refusal.fault()) {
+        let _ = write_whole(
+            err,
+            b"an ELF file; make an image of it: arcwcet import FILE IMAGE\n",
+        );
+        return;
+    }
     if let Ok(text) = reasons(alloc, files_of(job), refusal) {
         let _ = write_whole(err, &text);
     }

@@ -61,7 +61,7 @@ pub(crate) fn line_status<E: Output>(fault: CommandLineFault, err: &mut E) -> u8
         CommandLineFault::ImportParts => {
             let _ = write_whole(
                 err,
-                b"error: import needs CODE@ADDRESS .., or one CODE --at ADDRESS, and an IMAGE beside\n",
+                b"error: import needs CODE@ADDRESS .., CODE --at ADDRESS, or an ELF file, and an IMAGE\n",
             );
             2
         }

@@ -7,7 +7,7 @@ use Rattle.std.specs.Str.{bytes_eq}
 use Rattle.std.proofs.lemmas.Bool.{cases_Bool}
 use Rattle.std.proofs.lemmas.Option.{none-some}
 use Rattle.clap.specs.Walk.{Row, Text}
-use Rattle.command_line.specs.Line.{Asked, Usage, allowed, asked_as, asked_by, usages}
+use Rattle.command_line.specs.Line.{Asked, Usage, allowed, asked_as, asked_by, has_at_sign, usages}
 use Rattle.command_line.specs.Rows.{usage_of}
 use Rattle.command_line.specs.declared.command_rows.CommandRow.{CommandRow}
 
@@ -42,6 +42,11 @@ among_names_of names word = list_any (λ name. bytes_eq name.now word) names
 pub among_names : (names : List (Bor Text)) (word : Text) → among_names_of names word ≡ list_any (λ name. bytes_eq name word) (map (λ s. s.now) names)
 among_names [] word = refl
 among_names (name ∷ names) word = ap (λ (b : Bool). bytes_eq name.now word || b) (among_names names word)
+
+-- one of some names has an `@`
+pub at_signs : (names : List (Bor Text)) → list_any (λ name. has_at_sign name.now) names ≡ list_any has_at_sign (map (λ s. s.now) names)
+at_signs [] = refl
+at_signs (name ∷ names) = ap (λ (b : Bool). has_at_sign name.now || b) (at_signs names)
 
 pub chosen : (b : Bool) (q : Asked) → b ≡ true → Some q ≡ (if b then Some q else None)
 chosen true q is = refl

@@ -327,6 +327,10 @@ with_file name asked = record asked { files = asked.files ++ name ∷ [] }
 abbrev pub is_at_sign : ℕ → Bool
 is_at_sign byte = byte == 64
 
+-- a word with one is no name alone
+abbrev pub has_at_sign : Text → Bool
+has_at_sign word = list_any is_at_sign word
+
 -- the address in a word: the number behind its first `@`
 abbrev pub place_in : Text → Option ℕ
 place_in word = read_number (after_first is_at_sign word)
@@ -362,6 +366,12 @@ abbrev pub are_placed : Option Text → List (Option ℕ) → Bool
 are_placed at [] = false
 are_placed at (place ∷ []) = is_some place
 are_placed at (place ∷ next ∷ rest) = is_none at && list_all is_some (place ∷ next ∷ rest)
+
+-- there is one file, and neither its word nor an option says an address
+abbrev pub is_unplaced : Option Text → List (Option ℕ) → Bool
+is_unplaced at [] = false
+is_unplaced at (place ∷ []) = is_none place && is_none at
+is_unplaced at (place ∷ next ∷ rest) = false
 
 -- ## With the values of arguments
 
@@ -438,12 +448,18 @@ are_fiq_options asked =
     && (is_none asked.numbers.bursts && is_none asked.numbers.burst_every)
     else not asked.fiq_source && (is_none asked.numbers.every && is_none asked.numbers.waited)
 
--- the image of `import` is written over none of its files, and each has an address
-abbrev pub is_import : Asked → Bool
-is_import asked =
-    not (list_any (λ name. bytes_eq name asked.word) asked.files) && are_placed asked.at asked.places
+-- the files of `import` have addresses, or the one file is to say them; its name has no `@`
+abbrev pub are_parts : Asked → Bool
+are_parts asked =
+    are_placed asked.at asked.places
+    || (is_unplaced asked.at asked.places && not (list_any has_at_sign asked.files))
 
--- `asm` and `import` write no image over a file that they read, the latter has an address for each,
+-- the image of `import` is written over none of its files
+abbrev pub is_import : Asked → Bool
+is_import asked = not (list_any (λ name. bytes_eq name asked.word) asked.files) && are_parts asked
+
+-- `asm` and `import` write no image over a file that they read, the latter has an address for each or is to
+-- find those of one,
 -- `visits` has either a number of visits or a period,
 -- `respond` has all or nothing of FIQ, and beside the certificate of a verdict neither a number nor `--each`
 -- nor `--first` nor `--all` is given, which would have no effect

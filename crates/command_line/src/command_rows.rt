@@ -163,7 +163,7 @@ const AT: ArgumentRow = ArgumentRow {
 const PARTS: ArgumentRow = ArgumentRow {
     id: "parts",
     form: Form::Parts,
-    help: "Files of code, each with the address of its first word, and last the image, to be written",
+    help: "Files of code, each with its address, or one ELF file; and last the image, to be written",
     instead: None,
 };
 

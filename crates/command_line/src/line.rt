@@ -7,8 +7,8 @@ pub enum Command {
     Version,
     /// The image of a source, to be written to a file of the name [`Request::word`].
     Asm,
-    /// The image of files of code, each at its address of [`Request::places`], to be written to a file of the
-    /// name [`Request::word`].
+    /// The image of files of code, each at its address of [`Request::places`], or of one ELF file, which has
+    /// none there, to be written to a file of the name [`Request::word`].
     Import,
     /// The addresses, words and lines of a source, or the words of an image.
     List,
@@ -145,8 +145,8 @@ pub enum CommandLineFault {
     UnknownDialect,
     /// `asm` would write the image over its source.
     SourceReplaced,
-    /// `import` is given a file without an address, or `--at` with several files, or would write the image
-    /// over a file that it reads.
+    /// `import` is given several files and one without an address, or one without whose name has an `@`, or
+    /// `--at` with several files or no number, or would write the image over a file that it reads.
     ImportParts,
     /// `visits` is given neither a number of visits nor a period, or both, or a number and FIQ's wait.
     VisitsOrPeriod,

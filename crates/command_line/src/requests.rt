@@ -7,7 +7,8 @@ ghost use Rattle.clap.specs.Walk.{rows_of};
 ghost use Rattle.clap.specs.Words.{kind_of, subcommand_rows_of};
 ghost use Rattle.command_line.specs.Line.{are_fiq_options, asked_as, asked_by, asked_in, asks_version};
 ghost use Rattle.command_line.specs.Line.{command_by, is_allowed, is_allowed_of, is_known};
-ghost use Rattle.command_line.specs.Line.{are_placed, is_import, is_one, is_rate};
+ghost use Rattle.command_line.specs.Line.{are_parts, are_placed, has_at_sign, is_import, is_one, is_rate};
+ghost use Rattle.command_line.specs.Line.{is_unplaced};
 ghost use Rattle.command_line.specs.Line.{name_at, name_in, place_at, place_in};
 ghost use Rattle.command_line.specs.Line.{names_file, no_numbers, number_at, numbers_in, plainly};
 ghost use Rattle.command_line.specs.Line.{ticks_at, with_argument, with_value, with_value_by};
@@ -305,12 +306,42 @@ fn are_placed(at: Option<&str>, places: &[Option<u32>]) -> bool
     }
 }
 
+// Whether there is one file, and nothing says its address.
+fn is_unplaced(at: Option<&str>, places: &[Option<u32>]) -> bool
+    ensures { result ≡ is_unplaced (option_map (λ s. s.now) at.entry) places.now }
+{
+    match places {
+        [place] => place.is_none() & at.is_none(),
+        _ => false,
+    }
+}
+
+fn has_at_sign(word: &str) -> bool
+    ensures { result ≡ has_at_sign word.now }
+{
+    word.as_bytes().iter().any(|byte| *byte == b'@')
+}
+
+fn have_at_sign(names: &[&str]) -> bool
+    ensures { result ≡ list_any (λ name. has_at_sign name.now) names.now }
+{
+    names.iter().any(|name| has_at_sign(name))
+}
+
+// Whether the files have addresses, or the one file is to say them; its name has no `@`.
+fn are_parts(request: &Request<'_>) -> bool
+    ensures { result ≡ are_parts (asked_of request.now) }
+{
+    let alone = is_unplaced(request.at, &request.places) & !have_at_sign(&request.files);
+    are_placed(request.at, &request.places) | alone
+}
+
 // Whether an image is no file that is read, and its parts have addresses.
 fn is_import(request: &Request<'_>) -> bool
     ensures { result ≡ is_import (asked_of request.now) }
 {
     let over = is_among(&request.files, request.word);
-    !over & are_placed(request.at, &request.places)
+    !over & are_parts(request)
 }
 
 // Whether a dialect is known, if one is named.
@@ -493,12 +524,12 @@ fn version<'a>(alloc: Global) -> Request<'a>
 /// # Errors
 ///
 /// Where the words ask for nothing: `Usage` with the command-line crate's own refusal, or its help;
-/// `SourceReplaced` where `asm` would write the image over its source; `ImportParts` where a file of `import`
-/// has no address, or `--at` has several, or it would write over one; `VisitsOrPeriod` where `visits` has
-/// neither a number of visits nor a period, or both, or FIQ's wait beside a number; `FiqOptions` where
-/// `respond` has FIQ's statement without a period or beside bursts, or else an option of FIQ's;
-/// `OptionBesideCertificate` where `explain` has a certificate and an option for explanations. `Memory`: an
-/// allocation failed.
+/// `SourceReplaced` where `asm` would write the image over its source; `ImportParts` where one of several
+/// files of `import` has no address, or one file none and its name an `@`, or `--at` has several or is no
+/// number, or it would write over one; `VisitsOrPeriod` where `visits` has neither a number of visits nor a
+/// period, or both, or FIQ's wait beside a number; `FiqOptions` where `respond` has FIQ's statement without a
+/// period or beside bursts, or else an option of FIQ's; `OptionBesideCertificate` where `explain` has a
+/// certificate and an option for explanations. `Memory`: an allocation failed.
 pub fn request<'a>(alloc: Global, words: &'a [String]) -> Result<Request<'a>, CommandLineFault>
     ensures read { IfOk result (λ q. asked_in words.entry.now ≡ Some (asked_of q)) }
     ensures refused { IfErr result

@@ -1,1 +1,2 @@
+mod ElfLemmas
 mod PutLemmas

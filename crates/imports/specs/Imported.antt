@@ -52,9 +52,10 @@ word_fault words address word =
     else (if not (may_hold address) then Some (OutOfRange address)
     else fault_at address (put_fault words address word))
 
-abbrev pub unless : Option ImportFault → Result Words ImportFault → Result Words ImportFault
-unless None words = words
-unless (Some fault) words = Err fault
+-- a result, unless there is a fault
+abbrev pub unless : {A : Type 0} → Option ImportFault → Result A ImportFault → Result A ImportFault
+unless None result = result
+unless (Some fault) result = Err fault
 
 -- the words with others, or the fault of the first that those before it do not take
 abbrev pub put_each : Words → Words → Result Words ImportFault

@@ -1,1 +1,2 @@
+pub mod Elf
 pub mod Imported

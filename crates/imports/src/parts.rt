@@ -21,7 +21,7 @@ pub struct Part<'a> {
 }
 
 // The number in the first four bytes, the lowest first; those that are missing count as 0.
-fn first_number(bytes: &[u8]) -> u32
+pub(crate) fn first_number(bytes: &[u8]) -> u32
     ensures { result ≡ little_number 4 bytes.now }
 {
     let mut padded = [0; 4];

@@ -1,4 +1,4 @@
-use Rattle.std.proofs.Common.{◌∙◌, map, rules}
+use Rattle.std.proofs.Common.{map, rules}
 use Rattle.imports.specs.Imported.{part_of, words_of}
 use Rattle.imports.proofs.PutLemmas.{part_put, part_refused, put_holds, put_all}
 use Rattle.imports.proofs.parts.import_parts.Goals as goal
